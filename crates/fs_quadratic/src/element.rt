@@ -1,0 +1,120 @@
+ghost use Rattle.std.specs.Prelude.{◌≡◌, ◌+ℤ◌, ◌-ℤ◌, IfErr};
+ghost use Rattle.std.specs.Option.{SomeIff};
+ghost use Rattle.std.specs.Result.{OkIff};
+ghost use Rattle.fs_quadratic.specs.Ring.{Quadratic, add, sub, neg};
+ghost use Rattle.fs_quadratic.specs.Width.{InWidth, Fits};
+
+use std::marker::Model;
+
+/// A number p + q·√d with whole parts p and q, each from -(2^127 - 1) to 2^127 - 1.
+///
+/// It doesn't know its d: the field that it is used with does. Contracts see the two parts
+/// as whole numbers without bounds.
+#[derive(Clone, Copy, Debug, PartialEq, Eq, Hash)]
+pub struct Elem {
+    p: i128,
+    q: i128,
+}
+
+impl Model for Elem {
+    ghost use Rattle.fs_quadratic.specs.Ring.{Quadratic};
+    ghost use Rattle.fs_quadratic.specs.Width.{InWidth};
+
+    ghost Value = { Quadratic };
+
+    ghost view = { λ e. record { p = e.p; q = e.q } };
+
+    ghost invariant = { λ e. InWidth e.p × InWidth e.q };
+
+    ghost inverse = { λ x. record { p = x.p; q = x.q } };
+}
+
+/// The operation whose exact result, or a number on the way to it, leaves the width.
+#[derive(Clone, Copy, Debug, PartialEq, Eq, Hash)]
+pub enum Op {
+    Add,
+    Sub,
+    Mul,
+}
+
+impl Elem {
+    /// 0.
+    pub const ZERO: Elem = Elem { p: 0, q: 0 };
+
+    /// The number p + q·√d. Neither part may be `i128::MIN`.
+    pub fn new(p: i128, q: i128) -> Elem
+        requires p { InWidth p }
+        requires q { InWidth q }
+        ensures { result ≡ record { p = p; q = q } }
+    {
+        Elem { p, q }
+    }
+
+    /// The part p, without √d.
+    pub fn p(self) -> i128
+        ensures value { result ≡ self.p }
+        ensures within { InWidth self.p }
+    {
+        self.p
+    }
+
+    /// The part q, which stands before √d.
+    pub fn q(self) -> i128
+        ensures value { result ≡ self.q }
+        ensures within { InWidth self.q }
+    {
+        self.q
+    }
+
+    /// The exact sum, or `Op::Add` exactly where one of its parts leaves the width.
+    pub fn add(self, y: Elem) -> Result<Elem, Op>
+        ensures sum { OkIff result (Fits (add self y)) (add self y) }
+        ensures refused { IfErr result (λ e. e ≡ Op.Add) }
+    {
+        match (checked_sum(self.p, y.p), checked_sum(self.q, y.q)) {
+            (Some(p), Some(q)) => Ok(Elem { p, q }),
+            _ => Err(Op::Add),
+        }
+    }
+
+    /// The exact difference, or `Op::Sub` exactly where one of its parts leaves the width.
+    pub fn sub(self, y: Elem) -> Result<Elem, Op>
+        ensures difference { OkIff result (Fits (sub self y)) (sub self y) }
+        ensures refused { IfErr result (λ e. e ≡ Op.Sub) }
+    {
+        match (checked_difference(self.p, y.p), checked_difference(self.q, y.q)) {
+            (Some(p), Some(q)) => Ok(Elem { p, q }),
+            _ => Err(Op::Sub),
+        }
+    }
+
+    /// The number with both signs turned. It always fits.
+    pub fn neg(self) -> Elem
+        ensures { result ≡ neg self }
+    {
+        Elem {
+            p: -self.p,
+            q: -self.q,
+        }
+    }
+}
+
+// The sum, where it is within the width.
+fn checked_sum(a: i128, b: i128) -> Option<i128>
+    ensures { SomeIff result (InWidth (a +ℤ b)) (a +ℤ b) }
+{
+    match a.checked_add(b) {
+        Some(sum) if sum != i128::MIN => Some(sum),
+        _ => None,
+    }
+}
+
+// The difference, where it is within the width.
+fn checked_difference(a: i128, b: i128) -> Option<i128>
+    ensures { SomeIff result (InWidth (a -ℤ b)) (a -ℤ b) }
+{
+    match a.checked_sub(b) {
+        Some(difference) if difference != i128::MIN => Some(difference),
+        _ => None,
+    }
+}

@@ -1,0 +1,8 @@
+// Exact numbers p + q·√d, with whole p and q of at most 127 bits, for one squarefree d.
+#![tactic(auto)]
+
+mod element;
+mod radicand;
+
+pub use element::{Elem, Op};
+pub use radicand::{BadField, Field};
