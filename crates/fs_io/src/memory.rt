@@ -27,8 +27,12 @@ impl Model for MemSource {
     ghost Value = { Reserve };
 
     ghost view = { λ s. record {
-        left = drop s.at s.bytes.items; piece = s.piece; failing = s.failing.items;
-        calls = s.calls; faults = s.faults } };
+      left = drop s.at s.bytes.items;
+      piece = s.piece;
+      failing = s.failing.items;
+      calls = s.calls;
+      faults = s.faults;
+    } };
 
     ghost invariant = { λ s. (s.at ≤ vec_len s.bytes) × (0 < s.piece) × (s.faults ≤ last_count) };
 }
@@ -39,7 +43,12 @@ impl MemSource {
     pub fn new(bytes: Vec<u8>, piece: usize, failing: Vec<u64>) -> MemSource
         requires { 0 < piece }
         ensures { result ≡ record {
-            left = bytes.items; piece = piece; failing = failing.items; calls = 0; faults = 0 } }
+          left = bytes.items;
+          piece = piece;
+          failing = failing.items;
+          calls = 0;
+          faults = 0;
+        } }
     {
         MemSource {
             bytes,
@@ -117,8 +126,12 @@ impl Model for MemSink {
     ghost Value = { Basin };
 
     ghost view = { λ s. record {
-        held = s.bytes.items; room = s.room; failing = s.failing.items;
-        calls = s.calls; faults = s.faults } };
+      held = s.bytes.items;
+      room = s.room;
+      failing = s.failing.items;
+      calls = s.calls;
+      faults = s.faults;
+    } };
 
     ghost invariant = { λ s. (vec_len s.bytes ≤ s.room) × (s.room ≤ vec_capacity s.bytes) × (s.faults ≤ last_count) };
 }
@@ -129,7 +142,12 @@ impl MemSink {
     /// 2^64 - 1 once it is there.
     pub fn new(alloc: Global, room: usize, failing: Vec<u64>) -> Result<MemSink, NoMemory>
         ensures { IfOk result (λ sink. sink ≡ record {
-            held = []; room = room; failing = failing.items; calls = 0; faults = 0 }) }
+          held = [];
+          room = room;
+          failing = failing.items;
+          calls = 0;
+          faults = 0;
+        }) }
     {
         let Ok(bytes) = Vec::with_capacity(alloc, room) else {
             return Err(NoMemory);

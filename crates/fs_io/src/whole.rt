@@ -1,4 +1,4 @@
-ghost use Rattle.std.specs.Prelude.{◌≡◌, ◌<◌, ◌≤◌, [], vec_len, length, IfOk, OnOk, OnErr, IfSome, IsErrOf};
+ghost use Rattle.std.specs.Prelude.{◌≡◌, ◌+◌, ◌≤◌, ℕ, List, vec_len, length, IfOk, OnOk, OnErr, IsErrOf};
 ghost use Rattle.std.specs.Io.KnownBytes.{Appends, Consumes, IsAtEnd};
 ghost use Rattle.fs_io.specs.Faults.{Rose, last_count};
 ghost use Rattle.fs_io.specs.Whole.{most_bytes, TakesPrefix, AppendsPrefix};
@@ -35,8 +35,8 @@ pub fn read_all<S: Source>(alloc: Global, source: &mut S) -> Result<Vec<u8>, Rea
     ensures bytes { IfOk result (λ bytes. Consumes (S.left source.old) (S.left source.new) bytes.items) }
     ensures end { OnOk result (IsAtEnd (S.left source.new)) }
     ensures short { IfOk result (λ bytes. vec_len bytes ≤ most_bytes) }
-    ensures too_long { IsErrOf result ReadStop.TooLong
-        → IfSome (S.left source.old) (λ bytes. most_bytes < length bytes) }
+    ensures too_long { IsErrOf result ReadStop.TooLong → (taken : List ℕ)
+        × Consumes (S.left source.old) (S.left source.new) taken × (length taken ≡ most_bytes + 1) }
     ensures read_fault { IsErrOf result ReadStop.ReadFault
         → Rose (S.faults source.old) (S.faults source.new) }
     ensures prefix { OnErr result (TakesPrefix (S.left source.old) (S.left source.new)) }

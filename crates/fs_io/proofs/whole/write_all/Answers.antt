@@ -1,4 +1,4 @@
-use Rattle.std.proofs.Common.{◌≡◌, ◌+◌, ◌-◌, ◌≤◌, ◌++◌, List, ℕ, length, take, drop, sym, subst, arith, take-append-drop, length-take, length-drop}
+use Rattle.std.proofs.Common.{◌+◌, ◌-◌, ◌≤◌, length, take, drop, sym, subst, arith, take-append-drop, length-take, length-drop}
 use Rattle.std.proofs.KnownBytes.{Appends-kept, Appends-trans}
 use Rattle.std.specs.Io.KnownBytes.{Appends}
 use Rattle.fs_io.proofs.Pieces.{take_and_piece}
@@ -7,9 +7,12 @@ use Rattle.fs_io.proofs.whole.write_all.Goals as goal
 pub returns-in_default-clause-prefix : goal.returns-in_default-clause-prefix
 returns-in_default-clause-prefix g c =
     let at = c.loop-at.at in
-    let piece = c.args.piece.now in
-    (take at piece, drop at piece, sym (take-append-drop at piece),
-        Appends-kept _ _ _ _ c.loop-at.invariant.appended c.in_default.ensures.bytes)
+    let piece = c.args.piece.now in (
+      take at piece,
+      drop at piece,
+      sym (take-append-drop at piece),
+      Appends-kept _ _ _ _ c.loop-at.invariant.appended c.in_default.ensures.bytes,
+    )
 
 pub loop-at-preserved : goal.loop-at-preserved
 loop-at-preserved g c =

@@ -1,0 +1,15 @@
+pub mod Digits
+pub mod Fronts
+pub mod Wholes
+pub mod Words
+pub mod Lines
+pub mod Unique
+pub mod Points
+pub mod Glues
+pub mod Steps
+pub mod Ready
+pub mod Paths
+pub mod Stages
+pub mod Counts
+pub mod Answered
+pub mod OneOfTwo

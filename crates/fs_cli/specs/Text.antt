@@ -1,0 +1,36 @@
+-- The lines that are answered. Each ends with one line feed.
+use Rattle.std.specs.Prelude.{ℕ, List, [], ◌∷◌, ◌++◌, codes}
+use Rattle.std.specs.Fmt.{decimal}
+use Rattle.fs_plane.specs.declared.corners.Corner.{Corner}
+use Rattle.fs_plane.specs.declared.sites.Site.{Site}
+use Rattle.fs_plane.specs.declared.sites.Site.TheVariants.{Close}
+use Rattle.fs_gluing.specs.declared.faults.Fault.{Fault}
+use Rattle.fs_gluing.specs.declared.faults.Fault.TheVariants.{BadLine, NotClosed, NotOpposite, Unglued, TooLong}
+
+-- a line feed
+abbrev pub end : List ℕ
+end = 10 ∷ []
+
+-- i.j
+abbrev pub corner_text : Corner → List ℕ
+corner_text c = decimal c.polygon ++ codes "." ++ decimal c.side
+
+-- the number and the name of a fault, and where it is
+abbrev pub fault_text : Fault → List ℕ
+fault_text (BadLine line) = codes "refused 3 BadLine line " ++ decimal line ++ end
+fault_text (NotClosed polygon) = codes "refused 11 NotClosed " ++ decimal polygon ++ end
+fault_text (NotOpposite line) = codes "refused 16 NotOpposite line " ++ decimal line ++ end
+fault_text (Unglued side) = codes "refused 17 Unglued " ++ corner_text side ++ end
+fault_text TooLong = codes "refused 20 TooLong" ++ end
+
+-- the name of a site and its numbers
+abbrev pub site_text : Site → List ℕ
+site_text (Close polygon side place) = codes "close " ++ decimal polygon ++ codes " " ++ decimal side ++ codes " " ++ decimal place
+
+-- where building left the width
+abbrev pub build_text : Site → List ℕ
+build_text site = codes "build overflow " ++ site_text site ++ end
+
+-- how many polygons and sides a surface has
+abbrev pub check_text : ℕ → ℕ → List ℕ
+check_text polygons sides = codes "check polygons " ++ decimal polygons ++ codes " sides " ++ decimal sides ++ end

@@ -1,0 +1,25 @@
+/// How a run ended. Its number is the exit status of the program.
+#[derive(Clone, Copy, Debug, PartialEq, Eq)]
+pub enum Status {
+    /// Every command gave its defined answer.
+    Done,
+    /// The words aren't those of the command line; nothing was read or written.
+    Usage,
+    /// The job has a fault, which was written.
+    Refused,
+    /// An exact result left the width, which was written.
+    Partial,
+    /// The source failed; nothing was written.
+    ReadFault,
+    /// The sink failed; a prefix of the answer was written.
+    WriteFault,
+    /// Memory ran out; a prefix of the answer was written.
+    NoMemory,
+}
+
+impl Status {
+    /// Its number, from 0 for `Done` to 6 for `NoMemory`.
+    pub fn code(self) -> u8 {
+        self as u8
+    }
+}

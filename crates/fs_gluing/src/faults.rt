@@ -1,0 +1,39 @@
+ghost use Rattle.std.specs.Prelude.{◌≡◌};
+ghost use Rattle.fs_gluing.specs.declared.faults.BuildStop.TheVariants.{NoMemory};
+
+use fs_plane::{Corner, Site};
+use std::alloc::{AllocError, AllocFailed};
+
+/// What is wrong with a job. Polygons and sides are numbered from 0, lines from 1.
+#[derive(Clone, Copy, Debug, PartialEq, Eq, Hash)]
+pub enum Fault {
+    /// The line doesn't belong into a job there.
+    BadLine { line: u32 },
+    /// The sides of the polygon don't sum to (0,0).
+    NotClosed { polygon: u16 },
+    /// The vectors of the two sides on the line don't sum to (0,0).
+    NotOpposite { line: u32 },
+    /// The side is on no glue line.
+    Unglued(Corner),
+    /// There are more than 1,048,576 bytes.
+    TooLong,
+}
+
+/// Why no surface is built from a shape.
+#[derive(Clone, Copy, Debug, PartialEq, Eq, Hash)]
+pub enum BuildStop {
+    /// The shape isn't that of a surface.
+    Fault(Fault),
+    /// An exact result leaves the width.
+    Overflow(Site),
+    /// Memory ran out.
+    NoMemory,
+}
+
+impl From<AllocError> for BuildStop {
+    ghost from_gives = { λ _ e. e ≡ NoMemory };
+
+    fn from(_e: AllocError) -> BuildStop {
+        BuildStop::NoMemory
+    }
+}

@@ -1,0 +1,14 @@
+// Translation surfaces: polygons whose sides are glued in pairs by translations.
+#![tactic(auto)]
+
+mod building;
+mod faults;
+mod sequence;
+mod shapes;
+mod surfaces;
+
+pub use building::build;
+pub use faults::{BuildStop, Fault};
+pub use sequence::Sequence;
+pub use shapes::{Glue, Point, Shape};
+pub use surfaces::{Side, Surface};

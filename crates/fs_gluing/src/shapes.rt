@@ -1,0 +1,26 @@
+use crate::sequence::Sequence;
+use fs_plane::Corner;
+use fs_quadratic::Elem;
+
+/// A vector of the plane in true size, as a job gives it.
+#[derive(Clone, Copy, Debug, PartialEq, Eq, Hash)]
+pub struct Point {
+    pub x: Elem,
+    pub y: Elem,
+}
+
+/// Two sides that are glued, and the line of the job that says so.
+#[derive(Clone, Copy, Debug, PartialEq, Eq, Hash)]
+pub struct Glue {
+    pub line: u32,
+    pub one: Corner,
+    pub two: Corner,
+}
+
+/// What a surface is built from: polygons, each the list of its side vectors, walked
+/// counterclockwise, and the glued pairs of sides. It may be at fault.
+#[derive(Drop)]
+pub struct Shape {
+    pub polygons: Sequence<Sequence<Point>>,
+    pub glues: Sequence<Glue>,
+}

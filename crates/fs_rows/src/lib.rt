@@ -1,0 +1,7 @@
+// Tests of the whole call `flat` over memory, and of the streams over the standard library's own.
+#![tactic(auto)]
+
+#[cfg(test)]
+mod jobs;
+#[cfg(test)]
+mod streams;
