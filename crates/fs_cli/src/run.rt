@@ -84,7 +84,7 @@ pub fn flat<I: Source, O: Sink>(
     input: &mut I,
     out: &mut O,
 ) -> Status
-    // A word is no word of the command line: nothing is read, written or counted.
+    // With any word nothing is read, written or counted.
     ensures usage { (result ≡ Status.Usage) ↔ (0 < length words.now) }
     ensures untouched { result ≡ Status.Usage → (I.left input.new ≡ I.left input.old)
         × (I.faults input.new ≡ I.faults input.old) × (O.held out.new ≡ O.held out.old)

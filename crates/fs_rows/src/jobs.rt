@@ -30,7 +30,9 @@ fn square_with(alloc: Global, number: usize, text: &str) -> Result<Vec<u8>, Allo
 // What is written for a job, and the status.
 fn run(alloc: Global, job: Vec<u8>) -> Result<(Status, MemSink), Fail> {
     let mut input = MemSource::new(job, 64, Vec::new(alloc));
-    let mut out = MemSink::new(alloc, 256, Vec::new(alloc)).ok().ok_or("no room")?;
+    let mut out = MemSink::new(alloc, 256, Vec::new(alloc))
+        .ok()
+        .ok_or("no room")?;
     let status = flat(alloc, &[], &mut input, &mut out);
     Ok((status, out))
 }
@@ -40,20 +42,46 @@ fn answers(rt: HostRuntime) -> Result<(), Fail> {
     let wide = "polygon 999999999999999999,0 0,1 -999999999999999999,0 0,-1\n";
     for (number, text, answer, status) in [
         (0, "", "check polygons 1 sides 4\n", Status::Done),
-        (1, "flatsurf 1\r\n", "refused 3 BadLine line 1\n", Status::Refused),
+        (
+            1,
+            "flatsurf 1\r\n",
+            "refused 3 BadLine line 1\n",
+            Status::Refused,
+        ),
         (3, wide, "check polygons 1 sides 4\n", Status::Done),
-        (3, "polygon 1,0 0,1 -1,0 0,-2\n", "refused 11 NotClosed 0\n", Status::Refused),
-        (3, "polygon 1,0 0,1r -1,0 0,-1\n", "refused 11 NotClosed 0\n", Status::Refused),
-        (4, "glue 0.0 0.0\n", "refused 3 BadLine line 4\n", Status::Refused),
+        (
+            3,
+            "polygon 1,0 0,1 -1,0 0,-2\n",
+            "refused 11 NotClosed 0\n",
+            Status::Refused,
+        ),
+        (
+            3,
+            "polygon 1,0 0,1r -1,0 0,-1\n",
+            "refused 11 NotClosed 0\n",
+            Status::Refused,
+        ),
+        (
+            4,
+            "glue 0.0 0.0\n",
+            "refused 3 BadLine line 4\n",
+            Status::Refused,
+        ),
         (4, "", "refused 17 Unglued 0.0\n", Status::Refused),
         (5, "", "refused 17 Unglued 0.1\n", Status::Refused),
-        (4, "glue 0.0 0.2\nglue 0.1 0.3\n", "refused 3 BadLine line 6\n", Status::Refused),
+        (
+            4,
+            "glue 0.0 0.2\nglue 0.1 0.3\n",
+            "refused 3 BadLine line 6\n",
+            Status::Refused,
+        ),
     ] {
         let (got, out) = run(rt.alloc(), square_with(rt.alloc(), number, text)?)?;
         assert_eq!(rt; out.held(), answer.as_bytes(), "line {number}: {text}");
         assert_eq!(rt; got, status, "line {number}: {text}");
     }
-    let crossed = b"flatsurf 1\nfield 2\npolygon 1,0 0,1 -1,0 0,-1\nglue 0.0 0.1\nglue 0.2 0.3\ncheck\nend\n";
+    let crossed =
+        b"flatsurf 1\nfield 2\npolygon 1,0 0,1 -1,0 0,-1\nglue 0.0 0.1\nglue 0.2 0.3\ncheck\nend\n";
     let (got, out) = run(rt.alloc(), crossed.to_vec(rt.alloc())?)?;
     assert_eq!(rt; out.held(), b"refused 16 NotOpposite line 4\n".as_slice());
     assert_eq!(rt; got, Status::Refused);
@@ -79,14 +107,42 @@ fn bad_lines(rt: HostRuntime) -> Result<(), Fail> {
         (2, "field 12\n", "refused 3 BadLine line 2\n"),
         (2, "field 1000\n", "refused 3 BadLine line 2\n"),
         (3, "", "refused 3 BadLine line 3\n"),
-        (3, "0,-1 1,0 0,1 -1,0 polygon\n", "refused 3 BadLine line 3\n"),
-        (3, "polygon 1,0  0,1 -1,0 0,-1\n", "refused 3 BadLine line 3\n"),
-        (3, "polygon 1,0 0,1 -1,0 0,-1 \n", "refused 3 BadLine line 3\n"),
-        (3, "polygon\t1,0 0,1 -1,0 0,-1\n", "refused 3 BadLine line 3\n"),
-        (3, "polygon 1,0 0,1 -1,0 0,-1\r\n", "refused 3 BadLine line 3\n"),
-        (3, "polygon 1,0 0,0000000000000000001 -1,0 0,-1\n", "refused 3 BadLine line 3\n"),
+        (
+            3,
+            "0,-1 1,0 0,1 -1,0 polygon\n",
+            "refused 3 BadLine line 3\n",
+        ),
+        (
+            3,
+            "polygon 1,0  0,1 -1,0 0,-1\n",
+            "refused 3 BadLine line 3\n",
+        ),
+        (
+            3,
+            "polygon 1,0 0,1 -1,0 0,-1 \n",
+            "refused 3 BadLine line 3\n",
+        ),
+        (
+            3,
+            "polygon\t1,0 0,1 -1,0 0,-1\n",
+            "refused 3 BadLine line 3\n",
+        ),
+        (
+            3,
+            "polygon 1,0 0,1 -1,0 0,-1\r\n",
+            "refused 3 BadLine line 3\n",
+        ),
+        (
+            3,
+            "polygon 1,0 0,0000000000000000001 -1,0 0,-1\n",
+            "refused 3 BadLine line 3\n",
+        ),
         (3, "polygon 1,0 -1,0\n", "refused 3 BadLine line 3\n"),
-        (3, "polygon 1,0,0 0,1 -1,0 0,-1\n", "refused 3 BadLine line 3\n"),
+        (
+            3,
+            "polygon 1,0,0 0,1 -1,0 0,-1\n",
+            "refused 3 BadLine line 3\n",
+        ),
         (4, "0.0 glue 0.2\n", "refused 3 BadLine line 4\n"),
         (4, "glue  0.0 0.2\n", "refused 3 BadLine line 4\n"),
         (4, "glue 0.0\t0.2\n", "refused 3 BadLine line 4\n"),
@@ -94,7 +150,11 @@ fn bad_lines(rt: HostRuntime) -> Result<(), Fail> {
         (4, "glue 0.00000 0.2\n", "refused 3 BadLine line 4\n"),
         (4, "glue 0.0 0.4\n", "refused 3 BadLine line 4\n"),
         (4, "glue 1.0 0.2\n", "refused 3 BadLine line 4\n"),
-        (5, "glue 0.1 0.3\nglue 0.1 0.3\n", "refused 3 BadLine line 6\n"),
+        (
+            5,
+            "glue 0.1 0.3\nglue 0.1 0.3\n",
+            "refused 3 BadLine line 6\n",
+        ),
         (5, "glue 0.1 0.2\n", "refused 3 BadLine line 5\n"),
         (6, "", "refused 3 BadLine line 6\n"),
         (6, "check\ncheck\n", "refused 3 BadLine line 7\n"),
@@ -163,7 +223,10 @@ fn words(rt: HostRuntime) -> Result<(), Fail> {
         let before = input.left().len();
         let sink = MemSink::new(rt.alloc(), 64, Vec::new(rt.alloc()));
         let mut out = sink.ok().ok_or("no room")?;
-        assert_eq!(rt; flat(rt.alloc(), &words, &mut input, &mut out), Status::Usage);
+        assert_eq!(rt;
+            flat(rt.alloc(), &words, &mut input, &mut out),
+            Status::Usage
+        );
         assert_eq!(rt; input.left().len(), before);
         assert!(rt; out.held().is_empty());
         assert_eq!(rt; (input.faults(), out.faults()), (0, 0));
