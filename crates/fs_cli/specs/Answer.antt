@@ -33,6 +33,16 @@ pub data IsAnswered (bytes output : List ℕ) (result : Status) : Type 0 where
   -- the surface is built, and counted
   Built : (job : Job) → length bytes ≤ most_bytes → IsThin (lines_of bytes) job → AllByRecursion (Passes job.shape) (tests job.shape) → result ≡ status.Done → output ≡ check_text (length job.shape.polygons) (sum_by length job.shape.polygons) → IsAnswered bytes output result
 
+-- the number of a status
+abbrev pub exit_code : Status → ℕ
+exit_code status.Done = 0
+exit_code status.Usage = 1
+exit_code status.Refused = 2
+exit_code status.Partial = 3
+exit_code status.ReadFault = 4
+exit_code status.WriteFault = 5
+exit_code status.NoMemory = 6
+
 -- the whole answer was given
 abbrev pub IsWhole : Status → Type 0
 IsWhole status.Done = Unit {0}
