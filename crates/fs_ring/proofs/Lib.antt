@@ -1,3 +1,4 @@
 pub mod RingLaws
 pub mod Polynomial
 pub mod Solver
+pub mod Signs

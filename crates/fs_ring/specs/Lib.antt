@@ -1,2 +1,4 @@
 pub mod Operations
 pub mod CommutativeRing
+pub mod OrderedRing
+pub mod Vector
