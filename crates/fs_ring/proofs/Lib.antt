@@ -4,3 +4,6 @@ pub mod Solver
 pub mod Signs
 pub mod Order
 pub mod AbsoluteValue
+pub mod PlaneSolver
+pub mod Plane
+pub mod Directions

@@ -108,7 +108,7 @@ module _ {A : Type 0} {R : Operations A} (L : IsCommutativeRing R) where
   value-normal xs (negative x) = cc (value-minus L xs (normal x), value-normal xs x)
 
   -- an equation that the test passes holds of any elements
-  holds_by_test : (xs : List A) (e : Equation) → is_identity e ≡ true → Holds R xs e
+  pub holds_by_test : (xs : List A) (e : Equation) → is_identity e ≡ true → Holds R xs e
   holds_by_test xs e passed =
     let l = normal e.left in
     let r = normal e.right in
@@ -125,12 +125,15 @@ module _ {A : Type 0} {R : Operations A} (L : IsCommutativeRing R) where
   pub identity : (xs : List A) (f : Over xs Equation) → is_identity (at_variables 0 xs f) ≡ true → Holds R xs (at_variables 0 xs f)
   identity xs f passed = holds_by_test xs (at_variables 0 xs f) passed
 
+  -- a conclusion holds where the test passes and the premises hold
+  pub derived_by_test : (xs : List A) (d : Derivation) → is_derivation d ≡ true → AllHold R xs d.premises → Holds R xs d.conclusion
+  derived_by_test xs d passed all =
+      ring.eq_of_sub-zero L (evaluate R xs d.conclusion.left) (evaluate R xs d.conclusion.right)
+        (holds_by_test xs (difference d.conclusion ≐ combination d.premises) passed ∙ combination-zero xs d.premises all)
+
   -- what follows from equations: `derived L (x ∷ y ∷ z ∷ []) (λ x y z. x ⊗ z ≐ y ⊗ z from (z, x ≐ y) ∷ []) refl (h, tt)`
   pub derived : (xs : List A) (f : Over xs Derivation) → is_derivation (at_variables 0 xs f) ≡ true → AllHold R xs (at_variables 0 xs f).premises → Holds R xs (at_variables 0 xs f).conclusion
-  derived xs f passed all =
-    let d = at_variables 0 xs f in
-    ring.eq_of_sub-zero L (evaluate R xs d.conclusion.left) (evaluate R xs d.conclusion.right)
-      (holds_by_test xs (difference d.conclusion ≐ combination d.premises) passed ∙ combination-zero xs d.premises all)
+  derived xs f passed all = derived_by_test xs (at_variables 0 xs f) passed all
 
   -- what holds of the right side holds of the left
   pub by_identity : (P : A → Type 0) (xs : List A) (f : Over xs Equation) → is_identity (at_variables 0 xs f) ≡ true → P (evaluate R xs (at_variables 0 xs f).right) → P (evaluate R xs (at_variables 0 xs f).left)
