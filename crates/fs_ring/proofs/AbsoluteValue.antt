@@ -1,7 +1,7 @@
 -- Absolute values in an ordered ring.
-use Rattle.std.proofs.Common.{◌≡◌, ◌≢◌, ◌⊎◌, List, [], ◌∷◌, refl, sym, ap, ◌∙◌, subst, inl, inr}
-use Rattle.fs_ring.specs.Operations.{Operations, sub, square}
-use Rattle.fs_ring.specs.OrderedRing.{IsOrderedRing, Sign, positive, null, negative, IsLess, IsAtMost, IsNonNegative, IsAbsolute, abs, magnitude}
+use Rattle.std.proofs.Common.{◌≡◌, ◌⊎◌, [], ◌∷◌, refl, sym, ap, ◌∙◌, subst, inl, inr}
+use Rattle.fs_ring.specs.Operations.{Operations, square}
+use Rattle.fs_ring.specs.OrderedRing.{IsOrderedRing, Sign, positive, null, negative, IsAtMost, IsNonNegative, IsAbsolute, abs, magnitude}
 use Rattle.fs_ring.proofs.RingLaws as ring
 use Rattle.fs_ring.proofs.Signs as signs
 use Rattle.fs_ring.proofs.Order as order
@@ -10,10 +10,10 @@ use Rattle.fs_ring.proofs.Solver as solver
 
 module _ {A : Type 0} {R : Operations A} {IsPositive : A → Type 0} (L : IsOrderedRing R IsPositive) where
   open R use {add as ◌+◌, mul as ◌*◌, neg, zero as 𝟘}
+
   infixl 60 ◌+◌
   infixl 70 ◌*◌
   infix 50 ◌≤◌
-
   abbrev ◌≤◌ : A → A → Type 0
   x ≤ y = IsAtMost R IsPositive x y
 
@@ -36,7 +36,8 @@ module _ {A : Type 0} {R : Operations A} {IsPositive : A → Type 0} (L : IsOrde
   pub absolute_neg : {x a : A} → IsAbs x a → IsAbs (neg x) a
   absolute_neg {x} {a} h = record {
     non_negative = h.non_negative;
-    either_sign = elim h.either_sign [ inl e ↦ inr (e ∙ sym (ring.neg_neg L.ring x)) | inr e ↦ inl e ] }
+    either_sign = elim h.either_sign [ inl e ↦ inr (e ∙ sym (ring.neg_neg L.ring x)) | inr e ↦ inl e ];
+  }
 
   pub absolute_mul : {x y a b : A} → IsAbs x a → IsAbs y b → IsAbs (x * y) (a * b)
   absolute_mul {x} {y} {a} {b} h k = record { non_negative = signs.mul_non_negative L h.non_negative k.non_negative; either_sign = go h.either_sign k.either_sign }
@@ -49,24 +50,26 @@ module _ {A : Type 0} {R : Operations A} {IsPositive : A → Type 0} (L : IsOrde
 
   pub square_absolute : {x a : A} → IsAbs x a → square R a ≡ square R x
   square_absolute {x} {a} h =
-      elim h.either_sign
-        [ inl e ↦ ap (square R) e
-        | inr e ↦ derived L.ring (x ∷ a ∷ []) (λ x a. a ⊗ a ≐ x ⊗ x from (a ⊖ x, a ≐ solver.negative x) ∷ []) refl (e, tt) ]
+      elim h.either_sign [
+        | inl e ↦ ap (square R) e
+        | inr e ↦ derived L.ring (x ∷ a ∷ []) (λ x a. a ⊗ a ≐ x ⊗ x from (a ⊖ x, a ≐ solver.negative x) ∷ []) refl (e, tt)
+      ]
 
   -- an element has one absolute value
   pub absolute_unique : {x a b : A} → IsAbs x a → IsAbs x b → a ≡ b
   absolute_unique {x} {a} {b} h k =
-    let squares : square R a ≡ square R b = square_absolute h ∙ sym (square_absolute k) in
-    order.at_most_antisymm L a b
+      let squares : square R a ≡ square R b = square_absolute h ∙ sym (square_absolute k) in
+      order.at_most_antisymm L a b
       (λ l. order.less-ne L (square R b) (square R a) (order.square_less_square L b a k.non_negative l) (sym squares))
       (λ l. order.less-ne L (square R a) (square R b) (order.square_less_square L a b h.non_negative l) squares)
 
   pub at_most_absolute : {x a : A} → IsAbs x a → x ≤ a
   at_most_absolute {x} {a} h =
-      elim h.either_sign
-        [ inl e ↦ order.at_most_of_eq L x a (sym e)
+      elim h.either_sign [
+        | inl e ↦ order.at_most_of_eq L x a (sym e)
         | inr e ↦ λ l. signs.add_non_negative L h.non_negative h.non_negative
-            (signs.positive_of_eq L (derived L.ring (x ∷ a ∷ []) (λ x a. solver.negative (a ⊕ a) ≐ x ⊖ a from (solver.negative (numeral 1), a ≐ solver.negative x) ∷ []) refl (e, tt)) l) ]
+            (signs.positive_of_eq L (derived L.ring (x ∷ a ∷ []) (λ x a. solver.negative (a ⊕ a) ≐ x ⊖ a from (solver.negative (numeral 1), a ≐ solver.negative x) ∷ []) refl (e, tt)) l)
+      ]
 
   pub neg_at_most_absolute : {x a : A} → IsAbs x a → neg x ≤ a
   neg_at_most_absolute h = at_most_absolute (absolute_neg h)
@@ -79,8 +82,8 @@ module _ {A : Type 0} {R : Operations A} {IsPositive : A → Type 0} (L : IsOrde
   pub absolute_add : {x y a b c : A} → IsAbs x a → IsAbs y b → IsAbs (x + y) c → c ≤ a + b
   absolute_add {x} {y} {a} {b} {c} h k l =
       absolute_at_most l
-        (order.add_at_most_add L x a y b (at_most_absolute h) (at_most_absolute k))
-        (subst (λ w. w ≤ a + b) (sym (ring.neg-add L.ring x y)) (order.add_at_most_add L (neg x) a (neg y) b (neg_at_most_absolute h) (neg_at_most_absolute k)))
+      (order.add_at_most_add L x a y b (at_most_absolute h) (at_most_absolute k))
+      (subst (λ w. w ≤ a + b) (sym (ring.neg-add L.ring x y)) (order.add_at_most_add L (neg x) a (neg y) b (neg_at_most_absolute h) (neg_at_most_absolute k)))
 
   pub zero_of_absolute-zero : {x a : A} → IsAbs x a → a ≡ 𝟘 → x ≡ 𝟘
   zero_of_absolute-zero {x} {a} h e =

@@ -1,7 +1,7 @@
 -- The order of an ordered ring: it is total, and respects sums and products by positive elements.
-use Rattle.std.proofs.Common.{◌≡◌, ◌≢◌, ◌⊎◌, List, [], ◌∷◌, refl, sym, ap, ◌∙◌, subst, inl, inr}
+use Rattle.std.proofs.Common.{◌≡◌, ◌≢◌, ◌⊎◌, [], ◌∷◌, refl, sym, ap, subst, inl, inr}
 use Rattle.fs_ring.specs.Operations.{Operations, sub, square}
-use Rattle.fs_ring.specs.OrderedRing.{IsOrderedRing, Sign, positive, null, negative, IsLess, IsAtMost, IsNonNegative, Comparison, less, equal, greater}
+use Rattle.fs_ring.specs.OrderedRing.{IsOrderedRing, positive, null, negative, IsLess, IsAtMost, IsNonNegative, Comparison, less, equal, greater}
 use Rattle.fs_ring.proofs.RingLaws as ring
 use Rattle.fs_ring.proofs.Signs as signs
 use Rattle.fs_ring.proofs.Solver.{◌⊕◌, ◌⊖◌, ◌⊗◌, ◌≐◌, ◌from◌, identity, derived, numeral}
@@ -9,10 +9,10 @@ use Rattle.fs_ring.proofs.Solver as solver
 
 module _ {A : Type 0} {R : Operations A} {IsPositive : A → Type 0} (L : IsOrderedRing R IsPositive) where
   open R use {add as ◌+◌, mul as ◌*◌, neg, zero as 𝟘}
+
   infixl 60 ◌+◌ ◌-◌
   infixl 70 ◌*◌
   infix 50 ◌<◌ ◌≤◌
-
   abbrev ◌-◌ : A → A → A
   x - y = sub R x y
 
@@ -39,27 +39,30 @@ module _ {A : Type 0} {R : Operations A} {IsPositive : A → Type 0} (L : IsOrde
   -- which of the three holds
   pub compare : (x y : A) → Comparison R IsPositive x y
   compare x y =
-      elim (L.trichotomy (y - x))
-        [ positive p ↦ less p
+      elim (L.trichotomy (y - x)) [
+        | positive p ↦ less p
         | null e ↦ equal (sym (ring.eq_of_sub-zero L.ring y x e))
-        | negative n ↦ greater (signs.positive_of_eq L (sym (ring.neg-sub L.ring y x)) n) ]
+        | negative n ↦ greater (signs.positive_of_eq L (sym (ring.neg-sub L.ring y x)) n)
+      ]
 
   pub less_or_at_most : (x y : A) → (x < y) ⊎ (y ≤ x)
   less_or_at_most x y =
-      elim (compare x y)
-        [ less h ↦ inl h
+      elim (compare x y) [
+        | less h ↦ inl h
         | equal e ↦ inr (subst (λ w. w ≤ x) e (less_irrefl x))
-        | greater h ↦ inr (less_asymm y x h) ]
+        | greater h ↦ inr (less_asymm y x h)
+      ]
 
   pub less_of_not_at_most : (x y : A) → ¬ (y ≤ x) → x < y
   less_of_not_at_most x y h = elim (less_or_at_most x y) [ inl k ↦ k | inr k ↦ absurd (h k) ]
 
   pub equal_or_not : (x y : A) → (x ≡ y) ⊎ (x ≢ y)
   equal_or_not x y =
-      elim (compare x y)
-        [ less h ↦ inr (less-ne x y h)
+      elim (compare x y) [
+        | less h ↦ inr (less-ne x y h)
         | equal e ↦ inl e
-        | greater h ↦ inr (λ e. less-ne y x h (sym e)) ]
+        | greater h ↦ inr (λ e. less-ne y x h (sym e))
+      ]
 
   -- ---- below or equal
 
@@ -135,7 +138,7 @@ module _ {A : Type 0} {R : Operations A} {IsPositive : A → Type 0} (L : IsOrde
   pub add_at_most_add : (w x y z : A) → w ≤ x → y ≤ z → w + y ≤ x + z
   add_at_most_add w x y z h k =
       at_most_of_sub (w + y) (x + z) (λ n. signs.add_non_negative L (sub_of_at_most w x h) (sub_of_at_most y z k)
-        (signs.positive_by L (w ∷ x ∷ y ∷ z ∷ []) (λ w x y z. solver.negative ((x ⊖ w) ⊕ (z ⊖ y)) ≐ solver.negative ((x ⊕ z) ⊖ (w ⊕ y))) refl n))
+      (signs.positive_by L (w ∷ x ∷ y ∷ z ∷ []) (λ w x y z. solver.negative ((x ⊖ w) ⊕ (z ⊖ y)) ≐ solver.negative ((x ⊕ z) ⊖ (w ⊕ y))) refl n))
 
   pub neg_less_neg : (x y : A) → x < y → neg y < neg x
   neg_less_neg x y = signs.positive_by L (x ∷ y ∷ []) (λ x y. solver.negative x ⊖ solver.negative y ≐ y ⊖ x) refl
@@ -151,9 +154,10 @@ module _ {A : Type 0} {R : Operations A} {IsPositive : A → Type 0} (L : IsOrde
 
   pub mul_at_most_mul_left : (x y z : A) → IsNonNegative R IsPositive x → y ≤ z → x * y ≤ x * z
   mul_at_most_mul_left x y z h k l =
-      elim (signs.non_negative_cases L x h)
-        [ inl p ↦ k (less_of_mul_left x z y p l)
-        | inr e ↦ less_irrefl 𝟘 (signs.positive_of_eq L (derived L.ring (x ∷ y ∷ z ∷ []) (λ x y z. numeral 0 ⊖ numeral 0 ≐ x ⊗ y ⊖ x ⊗ z from (z ⊖ y, x ≐ numeral 0) ∷ []) refl (e, tt)) l) ]
+      elim (signs.non_negative_cases L x h) [
+        | inl p ↦ k (less_of_mul_left x z y p l)
+        | inr e ↦ less_irrefl 𝟘 (signs.positive_of_eq L (derived L.ring (x ∷ y ∷ z ∷ []) (λ x y z. numeral 0 ⊖ numeral 0 ≐ x ⊗ y ⊖ x ⊗ z from (z ⊖ y, x ≐ numeral 0) ∷ []) refl (e, tt)) l)
+      ]
 
   pub at_most_of_mul_left : (x y z : A) → IsPositive x → x * y ≤ x * z → y ≤ z
   at_most_of_mul_left x y z p h k = h (mul_less_mul_left x z y p k)
@@ -162,12 +166,13 @@ module _ {A : Type 0} {R : Operations A} {IsPositive : A → Type 0} (L : IsOrde
 
   pub square_less_square : (x y : A) → IsNonNegative R IsPositive x → x < y → square R x < square R y
   square_less_square x y h k =
-    let y_positive : IsPositive y = signs.positive_by L (x ∷ y ∷ []) (λ x y. y ≐ (y ⊖ x) ⊕ x) refl (signs.add_positive_non_negative L k h) in
-    signs.positive_by L (x ∷ y ∷ []) (λ x y. y ⊗ y ⊖ x ⊗ x ≐ (y ⊖ x) ⊗ (y ⊕ x)) refl (L.mul_positive k (signs.add_positive_non_negative L y_positive h))
+      let y_positive : IsPositive y = signs.positive_by L (x ∷ y ∷ []) (λ x y. y ≐ (y ⊖ x) ⊕ x) refl (signs.add_positive_non_negative L k h) in
+      signs.positive_by L (x ∷ y ∷ []) (λ x y. y ⊗ y ⊖ x ⊗ x ≐ (y ⊖ x) ⊗ (y ⊕ x)) refl (L.mul_positive k (signs.add_positive_non_negative L y_positive h))
 
   pub less_of_square_less : (x y : A) → IsNonNegative R IsPositive y → square R x < square R y → x < y
   less_of_square_less x y h k =
-      elim (compare x y)
-        [ less l ↦ l
+      elim (compare x y) [
+        | less l ↦ l
         | equal e ↦ absurd (less-ne (square R x) (square R y) k (ap (square R) e))
-        | greater l ↦ absurd (less_asymm (square R x) (square R y) k (square_less_square y x h l)) ]
+        | greater l ↦ absurd (less_asymm (square R x) (square R y) k (square_less_square y x h l))
+      ]

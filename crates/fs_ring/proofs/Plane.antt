@@ -1,5 +1,5 @@
 -- Identities of plane geometry over a commutative ring.
-use Rattle.std.proofs.Common.{◌≡◌, List, [], ◌∷◌, refl}
+use Rattle.std.proofs.Common.{◌≡◌, [], ◌∷◌, refl}
 use Rattle.fs_ring.specs.Operations.{Operations, sub, square}
 use Rattle.fs_ring.specs.CommutativeRing.{IsCommutativeRing}
 use Rattle.fs_ring.specs.Vector.{Vector, zero_vector, add_vector, sub_vector, neg_vector, scale, cross, dot, norm, twice_area, circle}
@@ -8,9 +8,9 @@ use Rattle.fs_ring.proofs.PlaneSolver.{plane_identity, vector_identity, ◌≐�
 
 module _ {A : Type 0} {R : Operations A} (L : IsCommutativeRing R) where
   open R use {add as ◌+◌, mul as ◌*◌, neg, zero as 𝟘}
+
   infixl 60 ◌+◌ ◌-◌
   infixl 70 ◌*◌
-
   abbrev ◌-◌ : A → A → A
   x - y = sub R x y
 
@@ -81,6 +81,12 @@ module _ {A : Type 0} {R : Operations A} (L : IsCommutativeRing R) where
   pub dot-scale_right : (k : A) (a b : Vector A) → dot R a (scale R k b) ≡ k * dot R a b
   dot-scale_right k a b = plane_identity L (k ∷ []) (a ∷ b ∷ []) (λ k a b. dot E a (scale E k b) ≐ k ⊗ dot E a b) refl
 
+  pub dot-zero_left : (a : Vector A) → dot R (zero_vector R) a ≡ 𝟘
+  dot-zero_left a = plane_identity L [] (a ∷ []) (λ a. dot E (zero_vector E) a ≐ numeral 0) refl
+
+  pub dot-zero_right : (a : Vector A) → dot R a (zero_vector R) ≡ 𝟘
+  dot-zero_right a = plane_identity L [] (a ∷ []) (λ a. dot E a (zero_vector E) ≐ numeral 0) refl
+
   pub norm-neg : (a : Vector A) → norm R (neg_vector R a) ≡ norm R a
   norm-neg a = plane_identity L [] (a ∷ []) (λ a. norm E (neg_vector E a) ≐ norm E a) refl
 
@@ -103,7 +109,7 @@ module _ {A : Type 0} {R : Operations A} (L : IsCommutativeRing R) where
   pub plucker : (a b c : Vector A) → add_vector R (add_vector R (scale R (cross R a b) c) (scale R (cross R b c) a)) (scale R (cross R c a) b) ≡ zero_vector R
   plucker a b c =
       vector_identity L [] (a ∷ b ∷ c ∷ [])
-        (λ a b c. add_vector E (add_vector E (scale E (cross E a b) c) (scale E (cross E b c) a)) (scale E (cross E c a) b) ≐ᵥ zero_vector E) refl
+      (λ a b c. add_vector E (add_vector E (scale E (cross E a b) c) (scale E (cross E b c) a)) (scale E (cross E c a) b) ≐ᵥ zero_vector E) refl
 
   pub plucker_x : (a b c : Vector A) → cross R a b * c.x + cross R b c * a.x + cross R c a * b.x ≡ 𝟘
   plucker_x a b c = plane_identity L [] (a ∷ b ∷ c ∷ []) (λ a b c. cross E a b ⊗ c.x ⊕ cross E b c ⊗ a.x ⊕ cross E c a ⊗ b.x ≐ numeral 0) refl

@@ -1,8 +1,9 @@
 -- The solver over vectors: a variable for each scalar, and a vector of two variables for each vector.
-use Rattle.std.proofs.Common.{◌≡◌, ℕ, suc, Bool, true, false, ◌&&◌, List, [], ◌∷◌, refl, sym, subst, true≢false}
+use Rattle.std.proofs.Common.{◌≡◌, ℕ, suc, Bool, true, ◌&&◌, List, [], ◌∷◌, sym, subst}
 use Rattle.fs_ring.specs.Operations.{Operations}
 use Rattle.fs_ring.specs.CommutativeRing.{IsCommutativeRing}
 use Rattle.fs_ring.specs.Vector.{Vector}
+use Rattle.fs_ring.proofs.Polynomial.{both_true}
 use Rattle.fs_ring.proofs.Solver.{Expression, variable, Equation, ◌≐◌, Derivation, Over, is_identity, is_derivation, evaluate, Holds, AllHold, holds_by_test, derived_by_test}
 
 abbrev pub OverVectors : {A : Type 0} → List (Vector A) → Type 0 → Type 0
@@ -46,10 +47,6 @@ is_vector_identity e = is_identity (e.left.x ≐ e.right.x) && is_identity (e.le
 abbrev pub evaluate_vector : {A : Type 0} → Operations A → List A → Vector Expression → Vector A
 evaluate_vector R xs a = record { x = evaluate R xs a.x; y = evaluate R xs a.y }
 
-both_true : (b c : Bool) → (b && c) ≡ true → (b ≡ true) × (c ≡ true)
-both_true true c h = (refl, h)
-both_true false c h = absurd (true≢false (sym h))
-
 -- vectors are equal where their parts are
 pub vector_eq : {A : Type 0} {a b : Vector A} → a.x ≡ b.x → a.y ≡ b.y → a ≡ b
 vector_eq p q = λ i. record { x = p i; y = q i }
@@ -66,9 +63,9 @@ module _ {A : Type 0} {R : Operations A} (L : IsCommutativeRing R) where
   -- an identity of vectors
   pub vector_identity : (xs : List A) (vs : List (Vector A)) (f : OverPlane xs vs VectorEquation) → is_vector_identity (at_plane 0 xs vs f) ≡ true → evaluate_vector R (elements xs vs) (at_plane 0 xs vs f).left ≡ evaluate_vector R (elements xs vs) (at_plane 0 xs vs f).right
   vector_identity xs vs f passed =
-    let e = at_plane 0 xs vs f in
-    let (first, second) = both_true (is_identity (e.left.x ≐ e.right.x)) (is_identity (e.left.y ≐ e.right.y)) passed in
-    vector_eq (holds_by_test L (elements xs vs) (e.left.x ≐ e.right.x) first) (holds_by_test L (elements xs vs) (e.left.y ≐ e.right.y) second)
+      let e = at_plane 0 xs vs f in
+      let (first, second) = both_true (is_identity (e.left.x ≐ e.right.x)) (is_identity (e.left.y ≐ e.right.y)) passed in
+      vector_eq (holds_by_test L (elements xs vs) (e.left.x ≐ e.right.x) first) (holds_by_test L (elements xs vs) (e.left.y ≐ e.right.y) second)
 
   -- what holds of the right side holds of the left
   pub by_plane_identity : (P : A → Type 0) (xs : List A) (vs : List (Vector A)) (f : OverPlane xs vs Equation) → is_identity (at_plane 0 xs vs f) ≡ true → P (evaluate R (elements xs vs) (at_plane 0 xs vs f).right) → P (evaluate R (elements xs vs) (at_plane 0 xs vs f).left)

@@ -68,7 +68,7 @@ module _ {A : Type 0} (R : Operations A) where
   value xs (constant a b) = sub R (of_nat R a) (of_nat R b)
   value xs (horner p q) = R.add (value (rest xs) p) (R.mul (first xs) (value xs q))
 
-both_true : (b c : Bool) → (b && c) ≡ true → (b ≡ true) × (c ≡ true)
+pub both_true : (b c : Bool) → (b && c) ≡ true → (b ≡ true) × (c ≡ true)
 both_true true c h = (refl, h)
 both_true false c h = absurd (true≢false (sym h))
 
@@ -90,15 +90,15 @@ module _ {A : Type 0} {R : Operations A} (L : IsCommutativeRing R) where
   pub value-scaled : (xs : List A) (a b : ℕ) (p : Polynomial) → value R xs (scaled a b p) ≡ R.mul (sub R (of_nat R a) (of_nat R b)) (value R xs p)
   value-scaled xs a b (constant c d) = cc (ring.of_nat-add L (a * c) (b * d), ring.of_nat-add L (a * d) (b * c), ring.of_nat-mul L a c, ring.of_nat-mul L b d, ring.of_nat-mul L a d, ring.of_nat-mul L b c, ring.sub-mul-sub L (of_nat R a) (of_nat R b) (of_nat R c) (of_nat R d))
   value-scaled xs a b (horner p q) =
-    let c = sub R (of_nat R a) (of_nat R b) in
-    cc (value-scaled (rest xs) a b p, value-scaled xs a b q, L.mul_add c (value R (rest xs) p) (R.mul (first R xs) (value R xs q)), ring.mul_left_comm L c (first R xs) (value R xs q))
+      let c = sub R (of_nat R a) (of_nat R b) in
+      cc (value-scaled (rest xs) a b p, value-scaled xs a b q, L.mul_add c (value R (rest xs) p) (R.mul (first R xs) (value R xs q)), ring.mul_left_comm L c (first R xs) (value R xs q))
 
   pub value-plus : (xs : List A) (p q : Polynomial) → value R xs (plus p q) ≡ R.add (value R xs p) (value R xs q)
   value-plus xs (constant a b) r = value-shifted xs a b r
   value-plus xs (horner p q) (constant a b) = cc (value-shifted (rest xs) a b p, L.add_comm (sub R (of_nat R a) (of_nat R b)) (R.add (value R (rest xs) p) (R.mul (first R xs) (value R xs q))), L.add_assoc (sub R (of_nat R a) (of_nat R b)) (value R (rest xs) p) (R.mul (first R xs) (value R xs q)))
   value-plus xs (horner p q) (horner r s) =
-    let x = first R xs in
-    cc (value-plus (rest xs) p r, value-plus xs q s, L.mul_add x (value R xs q) (value R xs s), ring.add_interchange L (value R (rest xs) p) (value R (rest xs) r) (R.mul x (value R xs q)) (R.mul x (value R xs s)))
+      let x = first R xs in
+      cc (value-plus (rest xs) p r, value-plus xs q s, L.mul_add x (value R xs q) (value R xs s), ring.add_interchange L (value R (rest xs) p) (value R (rest xs) r) (R.mul x (value R xs q)) (R.mul x (value R xs s)))
 
   pub value-minus : (xs : List A) (p : Polynomial) → value R xs (minus p) ≡ R.neg (value R xs p)
   value-minus xs (constant a b) = sym (ring.neg-sub L (of_nat R a) (of_nat R b))
@@ -111,13 +111,13 @@ module _ {A : Type 0} {R : Operations A} (L : IsCommutativeRing R) where
   pub value-times : (xs : List A) (p q : Polynomial) → value R xs (times p q) ≡ R.mul (value R xs p) (value R xs q)
   value-times xs (constant a b) r = value-scaled xs a b r
   value-times xs (horner p q) r =
-    let x = first R xs in
-    let v = value R xs r in
-    value-plus xs (spread (times p) r) (horner (constant 0 0) (times q r))
+      let x = first R xs in
+      let v = value R xs r in
+      value-plus xs (spread (times p) r) (horner (constant 0 0) (times q r))
       ∙ cc (value-spread xs (times p) (value R (rest xs) p) (λ s. value-times (rest xs) p s) r, value-times xs q r, zero_coefficient, ring.zero_add L (R.mul x (value R xs (times q r))), sym (L.mul_assoc x (value R xs q) v), ring.add_mul L (value R (rest xs) p) (R.mul x (value R xs q)) v)
 
   pub value-is_zero : (xs : List A) (p : Polynomial) → is_zero p ≡ true → value R xs p ≡ R.zero
   value-is_zero xs (constant a b) h = ap (λ n. sub R (of_nat R n) (of_nat R b)) (eqb-true a b h) ∙ L.add_neg (of_nat R b)
   value-is_zero xs (horner p q) h =
-    let (left, right) = both_true (is_zero p) (is_zero q) h in
-    cc (value-is_zero (rest xs) p left, value-is_zero xs q right, ring.mul_zero L (first R xs), L.add_zero R.zero)
+      let (left, right) = both_true (is_zero p) (is_zero q) h in
+      cc (value-is_zero (rest xs) p left, value-is_zero xs q right, ring.mul_zero L (first R xs), L.add_zero R.zero)

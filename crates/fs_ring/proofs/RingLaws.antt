@@ -6,9 +6,9 @@ use Rattle.fs_ring.specs.CommutativeRing.{IsCommutativeRing}
 
 module _ {A : Type 0} {R : Operations A} (L : IsCommutativeRing R) where
   open R use {add as ◌+◌, mul as ◌*◌, neg, zero as 𝟘, one as 𝟙}
+
   infixl 60 ◌+◌
   infixl 70 ◌*◌
-
   pub zero_add : (x : A) → 𝟘 + x ≡ x
   zero_add x = L.add_comm 𝟘 x ∙ L.add_zero x
 
@@ -55,7 +55,7 @@ module _ {A : Type 0} {R : Operations A} (L : IsCommutativeRing R) where
 
   pub neg-add : (x y : A) → neg (x + y) ≡ neg x + neg y
   neg-add x y = neg_unique (x + y) (neg x + neg y)
-    (L.add_assoc x y (neg x + neg y) ∙ ap (λ w. x + w) (add_left_comm y (neg x) (neg y) ∙ ap (λ w. neg x + w) (L.add_neg y) ∙ L.add_zero (neg x)) ∙ L.add_neg x)
+      (L.add_assoc x y (neg x + neg y) ∙ ap (λ w. x + w) (add_left_comm y (neg x) (neg y) ∙ ap (λ w. neg x + w) (L.add_neg y) ∙ L.add_zero (neg x)) ∙ L.add_neg x)
 
   pub neg-mul : (x y : A) → neg x * y ≡ neg (x * y)
   neg-mul x y = sym (neg_unique (x * y) (neg x * y) (sym (add_mul x (neg x) y) ∙ ap (λ w. w * y) (L.add_neg x) ∙ zero_mul y))

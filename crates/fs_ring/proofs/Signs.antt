@@ -8,9 +8,9 @@ use Rattle.fs_ring.proofs.Solver as solver
 
 module _ {A : Type 0} {R : Operations A} {IsPositive : A → Type 0} (L : IsOrderedRing R IsPositive) where
   open R use {add as ◌+◌, mul as ◌*◌, neg, zero as 𝟘, one as 𝟙}
+
   infixl 60 ◌+◌ ◌-◌
   infixl 70 ◌*◌
-
   abbrev ◌-◌ : A → A → A
   x - y = sub R x y
 
@@ -79,7 +79,7 @@ module _ {A : Type 0} {R : Operations A} {IsPositive : A → Type 0} (L : IsOrde
   pub mul_left_cancel : (x y z : A) → x ≢ 𝟘 → x * y ≡ x * z → y ≡ z
   mul_left_cancel x y z p h =
       elim (no_zero_divisors x (y - z) (derived L.ring (x ∷ y ∷ z ∷ []) (λ x y z. x ⊗ (y ⊖ z) ≐ numeral 0 from (numeral 1, x ⊗ y ≐ x ⊗ z) ∷ []) refl (h, tt)))
-        [ inl e ↦ absurd (p e) | inr e ↦ ring.eq_of_sub-zero L.ring y z e ]
+      [ inl e ↦ absurd (p e) | inr e ↦ ring.eq_of_sub-zero L.ring y z e ]
 
   -- ---- cancelling a positive factor
 
@@ -100,7 +100,7 @@ module _ {A : Type 0} {R : Operations A} {IsPositive : A → Type 0} (L : IsOrde
   pub mul_negative_cases : (x y : A) → IsPositive (neg (x * y)) → (IsPositive x × IsPositive (neg y)) ⊎ (IsPositive (neg x) × IsPositive y)
   mul_negative_cases x y h =
       elim (mul_positive_cases x (neg y) (positive_of_eq (ring.mul-neg L.ring x y) h))
-        [ inl c ↦ inl c | inr c ↦ inr (c.0, positive_of_neg-neg c.1) ]
+      [ inl c ↦ inl c | inr c ↦ inr (c.0, positive_of_neg-neg c.1) ]
 
   pub positive_of_mul_left : {x y : A} → IsPositive x → IsPositive (x * y) → IsPositive y
   positive_of_mul_left {x} {y} p h = elim (mul_positive_cases x y h) [ inl c ↦ c.1 | inr c ↦ absurd (not_both_signs p c.0) ]
@@ -143,9 +143,10 @@ module _ {A : Type 0} {R : Operations A} {IsPositive : A → Type 0} (L : IsOrde
 
   pub add_non_negative : {x y : A} → IsNonNegative R IsPositive x → IsNonNegative R IsPositive y → IsNonNegative R IsPositive (x + y)
   add_non_negative {x} {y} h k =
-      elim (non_negative_cases x h)
-        [ inl p ↦ non_negative_of_positive (add_positive_non_negative p k)
-        | inr e ↦ λ n. k (subst (λ w. IsPositive (neg w)) (ap (λ w. w + y) e ∙ ring.zero_add L.ring y) n) ]
+      elim (non_negative_cases x h) [
+        | inl p ↦ non_negative_of_positive (add_positive_non_negative p k)
+        | inr e ↦ λ n. k (subst (λ w. IsPositive (neg w)) (ap (λ w. w + y) e ∙ ring.zero_add L.ring y) n)
+      ]
 
   pub mul_non_negative : {x y : A} → IsNonNegative R IsPositive x → IsNonNegative R IsPositive y → IsNonNegative R IsPositive (x * y)
   mul_non_negative {x} {y} h k n = elim (mul_negative_cases x y n) [ inl c ↦ k c.1 | inr c ↦ h c.0 ]
@@ -167,10 +168,11 @@ module _ {A : Type 0} {R : Operations A} {IsPositive : A → Type 0} (L : IsOrde
 
   pub square_non_negative : (x : A) → IsNonNegative R IsPositive (square R x)
   square_non_negative x =
-      elim (L.trichotomy x)
-        [ positive p ↦ non_negative_of_positive (L.mul_positive p p)
+      elim (L.trichotomy x) [
+        | positive p ↦ non_negative_of_positive (L.mul_positive p p)
         | null e ↦ non_negative_of_zero (ap (λ w. x * w) e ∙ ring.mul_zero L.ring x)
-        | negative n ↦ non_negative_of_positive (mul_negative_negative n n) ]
+        | negative n ↦ non_negative_of_positive (mul_negative_negative n n)
+      ]
 
   pub zero_of_square-zero : {x : A} → square R x ≡ 𝟘 → x ≡ 𝟘
   zero_of_square-zero {x} h = elim (no_zero_divisors x x h) [ inl e ↦ e | inr e ↦ e ]
@@ -178,8 +180,8 @@ module _ {A : Type 0} {R : Operations A} {IsPositive : A → Type 0} (L : IsOrde
   -- a sum of two squares is zero only where both elements are
   pub zero_of_squares-zero : {x y : A} → square R x + square R y ≡ 𝟘 → (x ≡ 𝟘) × (y ≡ 𝟘)
   zero_of_squares-zero {x} {y} h =
-    let zeros = both_zero (square_non_negative x) (square_non_negative y) h in
-    (zero_of_square-zero zeros.0, zero_of_square-zero zeros.1)
+      let zeros = both_zero (square_non_negative x) (square_non_negative y) h in
+      (zero_of_square-zero zeros.0, zero_of_square-zero zeros.1)
 
   pub of_nat_positive : (n : ℕ) → IsPositive (of_nat R (suc n))
   of_nat_positive zero = L.one_positive

@@ -1,9 +1,9 @@
 -- The solver: an identity of polynomials holds in every commutative ring where its two sides have one normal form.
-use Rattle.std.proofs.Common.{◌≡◌, ℕ, zero, suc, Bool, true, List, [], ◌∷◌, refl, sym, ap, ◌∙◌, subst}
-use Rattle.fs_ring.specs.Operations.{Operations, sub, of_nat}
+use Rattle.std.proofs.Common.{◌≡◌, ℕ, suc, Bool, true, List, [], ◌∷◌, refl, sym, ap, ◌∙◌, subst}
+use Rattle.fs_ring.specs.Operations.{Operations, of_nat}
 use Rattle.fs_ring.specs.CommutativeRing.{IsCommutativeRing}
 use Rattle.fs_ring.proofs.RingLaws as ring
-use Rattle.fs_ring.proofs.Polynomial.{Polynomial, constant, horner, variable_at, plus, minus, times, is_zero, first, rest, nth, value, value-variable_at, value-plus, value-minus, value-times, value-is_zero}
+use Rattle.fs_ring.proofs.Polynomial.{Polynomial, constant, variable_at, plus, minus, times, is_zero, nth, value, value-variable_at, value-plus, value-minus, value-times, value-is_zero}
 
 -- what the solver reads: numbered variables, numerals and the operations
 pub data Expression : Type 0 where
@@ -19,7 +19,6 @@ expressions = record { add = sum; mul = product; neg = negative; zero = numeral 
 
 infixl 60 ◌⊕◌ ◌⊖◌
 infixl 70 ◌⊗◌
-
 abbrev pub ◌⊕◌ : Expression → Expression → Expression
 x ⊕ y = sum x y
 
@@ -110,16 +109,16 @@ module _ {A : Type 0} {R : Operations A} (L : IsCommutativeRing R) where
   -- an equation that the test passes holds of any elements
   pub holds_by_test : (xs : List A) (e : Equation) → is_identity e ≡ true → Holds R xs e
   holds_by_test xs e passed =
-    let l = normal e.left in
-    let r = normal e.right in
-    ring.eq_of_sub-zero L (evaluate R xs e.left) (evaluate R xs e.right)
+      let l = normal e.left in
+      let r = normal e.right in
+      ring.eq_of_sub-zero L (evaluate R xs e.left) (evaluate R xs e.right)
       (cc (value-is_zero L xs (plus l (minus r)) passed, value-plus L xs l (minus r), value-minus L xs r, value-normal xs e.left, value-normal xs e.right))
 
   combination-zero : (xs : List A) (ps : List (Expression × Equation)) → AllHold R xs ps → evaluate R xs (combination ps) ≡ R.zero
   combination-zero xs [] all = refl
   combination-zero xs (p ∷ ps) all =
-    let factor = evaluate R xs p.0 in
-    cc (ring.sub-zero_of_eq L (evaluate R xs p.1.left) (evaluate R xs p.1.right) all.0, ring.mul_zero L factor, L.add_zero R.zero, combination-zero xs ps all.1)
+      let factor = evaluate R xs p.0 in
+      cc (ring.sub-zero_of_eq L (evaluate R xs p.1.left) (evaluate R xs p.1.right) all.0, ring.mul_zero L factor, L.add_zero R.zero, combination-zero xs ps all.1)
 
   -- an identity at the elements xs, stated over a variable for each: `identity L (x ∷ y ∷ []) (λ x y. x ⊕ y ≐ y ⊕ x) refl`
   pub identity : (xs : List A) (f : Over xs Equation) → is_identity (at_variables 0 xs f) ≡ true → Holds R xs (at_variables 0 xs f)
@@ -129,7 +128,7 @@ module _ {A : Type 0} {R : Operations A} (L : IsCommutativeRing R) where
   pub derived_by_test : (xs : List A) (d : Derivation) → is_derivation d ≡ true → AllHold R xs d.premises → Holds R xs d.conclusion
   derived_by_test xs d passed all =
       ring.eq_of_sub-zero L (evaluate R xs d.conclusion.left) (evaluate R xs d.conclusion.right)
-        (holds_by_test xs (difference d.conclusion ≐ combination d.premises) passed ∙ combination-zero xs d.premises all)
+      (holds_by_test xs (difference d.conclusion ≐ combination d.premises) passed ∙ combination-zero xs d.premises all)
 
   -- what follows from equations: `derived L (x ∷ y ∷ z ∷ []) (λ x y z. x ⊗ z ≐ y ⊗ z from (z, x ≐ y) ∷ []) refl (h, tt)`
   pub derived : (xs : List A) (f : Over xs Derivation) → is_derivation (at_variables 0 xs f) ≡ true → AllHold R xs (at_variables 0 xs f).premises → Holds R xs (at_variables 0 xs f).conclusion
