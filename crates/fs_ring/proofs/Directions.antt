@@ -8,13 +8,13 @@ use Rattle.fs_ring.proofs.Signs as signs
 use Rattle.fs_ring.proofs.Plane as plane
 use Rattle.fs_ring.proofs.Solver.{Equation, is_identity, evaluate, expressions as E, numeral, ◌⊕◌, ◌⊖◌, ◌⊗◌, ◌≐◌, ◌from◌}
 use Rattle.fs_ring.proofs.Solver as solver
-use Rattle.fs_ring.proofs.PlaneSolver.{OverPlane, at_plane, elements, plane_identity, plane_derived, by_plane_identity, vector_eq}
+use Rattle.fs_ring.proofs.PlaneSolver.{OverPlane, at_plane, elements, plane_derived, by_plane_identity, vector_eq}
 
 module _ {A : Type 0} {R : Operations A} {IsPositive : A → Type 0} (L : IsOrderedRing R IsPositive) where
   open R use {add as ◌+◌, mul as ◌*◌, neg, zero as 𝟘}
+
   infixl 60 ◌+◌
   infixl 70 ◌*◌
-
   -- what equals a positive element by an identity over vectors is positive
   pub positive_by_plane : (xs : List A) (vs : List (Vector A)) (f : OverPlane xs vs Equation) → is_identity (at_plane 0 xs vs f) ≡ true → IsPositive (evaluate R (elements xs vs) (at_plane 0 xs vs f).right) → IsPositive (evaluate R (elements xs vs) (at_plane 0 xs vs f).left)
   positive_by_plane = by_plane_identity L.ring IsPositive
@@ -27,8 +27,8 @@ module _ {A : Type 0} {R : Operations A} {IsPositive : A → Type 0} (L : IsOrde
   -- a vector of norm zero is zero
   pub zero_of_norm-zero : (a : Vector A) → norm R a ≡ 𝟘 → a ≡ zero_vector R
   zero_of_norm-zero a h =
-    let zeros = signs.zero_of_squares-zero L {x = a.x} {y = a.y} h in
-    vector_eq zeros.0 zeros.1
+      let zeros = signs.zero_of_squares-zero L {x = a.x} {y = a.y} h in
+      vector_eq zeros.0 zeros.1
 
   pub norm_positive : (a : Vector A) → a ≢ zero_vector R → IsPositive (norm R a)
   norm_positive a h =
@@ -42,7 +42,7 @@ module _ {A : Type 0} {R : Operations A} {IsPositive : A → Type 0} (L : IsOrde
   pub square-dot_at_most : (a b : Vector A) → IsAtMost R IsPositive (square R (dot R a b)) (norm R a * norm R b)
   square-dot_at_most a b h =
       signs.square_non_negative L (cross R a b)
-        (positive_by_plane [] (a ∷ b ∷ []) (λ a b. solver.negative (square E (cross E a b)) ≐ square E (dot E a b) ⊖ norm E a ⊗ norm E b) refl h)
+      (positive_by_plane [] (a ∷ b ∷ []) (λ a b. solver.negative (square E (cross E a b)) ≐ square E (dot E a b) ⊖ norm E a ⊗ norm E b) refl h)
 
   pub cross_positive-ne-zero_left : {a b : Vector A} → IsPositive (cross R a b) → a ≢ zero_vector R
   cross_positive-ne-zero_left {a} {b} p e = signs.positive-ne-zero L p (ap (λ v. cross R v b) e ∙ plane.cross-zero_left L.ring b)
@@ -68,17 +68,17 @@ module _ {A : Type 0} {R : Operations A} {IsPositive : A → Type 0} (L : IsOrde
   -- of two vectors that are parallel and at a right angle one is zero
   pub zero_of_cross_dot-zero : (a b : Vector A) → cross R a b ≡ 𝟘 → dot R a b ≡ 𝟘 → (a ≡ zero_vector R) ⊎ (b ≡ zero_vector R)
   zero_of_cross_dot-zero a b h k =
-    let product : norm R a * norm R b ≡ 𝟘 =
+      let product : norm R a * norm R b ≡ 𝟘 =
       plane_derived L.ring [] (a ∷ b ∷ [])
-        (λ a b. norm E a ⊗ norm E b ≐ numeral 0 from (cross E a b, cross E a b ≐ numeral 0) ∷ (dot E a b, dot E a b ≐ numeral 0) ∷ []) refl (h, (k, tt)) in
-    elim (signs.no_zero_divisors L (norm R a) (norm R b) product) [ inl e ↦ inl (zero_of_norm-zero a e) | inr e ↦ inr (zero_of_norm-zero b e) ]
+      (λ a b. norm E a ⊗ norm E b ≐ numeral 0 from (cross E a b, cross E a b ≐ numeral 0) ∷ (dot E a b, dot E a b ≐ numeral 0) ∷ []) refl (h, (k, tt)) in
+      elim (signs.no_zero_divisors L (norm R a) (norm R b) product) [ inl e ↦ inl (zero_of_norm-zero a e) | inr e ↦ inr (zero_of_norm-zero b e) ]
 
   -- of two parallel vectors each is a multiple of the other, but for a factor
   pub scale_parallel : (a b : Vector A) → cross R a b ≡ 𝟘 → scale R (norm R a) b ≡ scale R (dot R a b) a
   scale_parallel a b h =
       vector_eq
-        (plane_derived L.ring [] (a ∷ b ∷ []) (λ a b. norm E a ⊗ b.x ≐ dot E a b ⊗ a.x from (solver.negative a.y, cross E a b ≐ numeral 0) ∷ []) refl (h, tt))
-        (plane_derived L.ring [] (a ∷ b ∷ []) (λ a b. norm E a ⊗ b.y ≐ dot E a b ⊗ a.y from (a.x, cross E a b ≐ numeral 0) ∷ []) refl (h, tt))
+      (plane_derived L.ring [] (a ∷ b ∷ []) (λ a b. norm E a ⊗ b.x ≐ dot E a b ⊗ a.x from (solver.negative a.y, cross E a b ≐ numeral 0) ∷ []) refl (h, tt))
+      (plane_derived L.ring [] (a ∷ b ∷ []) (λ a b. norm E a ⊗ b.y ≐ dot E a b ⊗ a.y from (a.x, cross E a b ≐ numeral 0) ∷ []) refl (h, tt))
 
   pub parallel_comm : (a b : Vector A) → cross R a b ≡ 𝟘 → cross R b a ≡ 𝟘
   parallel_comm a b h =
@@ -87,8 +87,8 @@ module _ {A : Type 0} {R : Operations A} {IsPositive : A → Type 0} (L : IsOrde
   pub parallel_trans : (a b c : Vector A) → b ≢ zero_vector R → cross R a b ≡ 𝟘 → cross R b c ≡ 𝟘 → cross R a c ≡ 𝟘
   parallel_trans a b c n h k =
       signs.zero_of_mul_left L (signs.positive-ne-zero L (norm_positive b n))
-        (plane_derived L.ring [] (a ∷ b ∷ c ∷ [])
-          (λ a b c. norm E b ⊗ cross E a c ≐ numeral 0 from (dot E b c, cross E a b ≐ numeral 0) ∷ (dot E a b, cross E b c ≐ numeral 0) ∷ []) refl (h, (k, tt)))
+      (plane_derived L.ring [] (a ∷ b ∷ c ∷ [])
+      (λ a b c. norm E b ⊗ cross E a c ≐ numeral 0 from (dot E b c, cross E a b ≐ numeral 0) ∷ (dot E a b, cross E b c ≐ numeral 0) ∷ []) refl (h, (k, tt)))
 
   -- ---- vectors of one direction
 
@@ -96,32 +96,33 @@ module _ {A : Type 0} {R : Operations A} {IsPositive : A → Type 0} (L : IsOrde
   pub same_direction_cross : (a b c : Vector A) → cross R a b ≡ 𝟘 → IsPositive (dot R a b) → IsPositive (cross R a c) → IsPositive (cross R b c)
   same_direction_cross a b c h p q =
       signs.positive_of_mul_left L (norm_positive a (cross_positive-ne-zero_left q))
-        (signs.positive_of_eq L
-          (plane_derived L.ring [] (a ∷ b ∷ c ∷ [])
-            (λ a b c. norm E a ⊗ cross E b c ≐ dot E a b ⊗ cross E a c from (solver.negative (dot E a c), cross E a b ≐ numeral 0) ∷ []) refl (h, tt))
-          (L.mul_positive p q))
+      (signs.positive_of_eq L
+      (plane_derived L.ring [] (a ∷ b ∷ c ∷ [])
+      (λ a b c. norm E a ⊗ cross E b c ≐ dot E a b ⊗ cross E a c from (solver.negative (dot E a c), cross E a b ≐ numeral 0) ∷ []) refl (h, tt))
+      (L.mul_positive p q))
 
   -- and to their right
   pub same_direction_cross_right : (a b c : Vector A) → cross R a b ≡ 𝟘 → IsPositive (dot R a b) → IsPositive (cross R c a) → IsPositive (cross R c b)
   same_direction_cross_right a b c h p q =
       signs.positive_of_mul_left L (norm_positive a (cross_positive-ne-zero_right q))
-        (signs.positive_of_eq L
-          (plane_derived L.ring [] (a ∷ b ∷ c ∷ [])
-            (λ a b c. norm E a ⊗ cross E c b ≐ dot E a b ⊗ cross E c a from (dot E a c, cross E a b ≐ numeral 0) ∷ []) refl (h, tt))
-          (L.mul_positive p q))
+      (signs.positive_of_eq L
+      (plane_derived L.ring [] (a ∷ b ∷ c ∷ [])
+      (λ a b c. norm E a ⊗ cross E c b ≐ dot E a b ⊗ cross E c a from (dot E a c, cross E a b ≐ numeral 0) ∷ []) refl (h, tt))
+      (L.mul_positive p q))
 
   pub same_direction_dot : (a b c : Vector A) → cross R a b ≡ 𝟘 → IsPositive (dot R a b) → IsPositive (dot R a c) → IsPositive (dot R b c)
   same_direction_dot a b c h p q =
       signs.positive_of_mul_left L (norm_positive a (dot_positive-ne-zero_left q))
-        (signs.positive_of_eq L
-          (plane_derived L.ring [] (a ∷ b ∷ c ∷ [])
-            (λ a b c. norm E a ⊗ dot E b c ≐ dot E a b ⊗ dot E a c from (cross E a c, cross E a b ≐ numeral 0) ∷ []) refl (h, tt))
-          (L.mul_positive p q))
+      (signs.positive_of_eq L
+      (plane_derived L.ring [] (a ∷ b ∷ c ∷ [])
+      (λ a b c. norm E a ⊗ dot E b c ≐ dot E a b ⊗ dot E a c from (cross E a c, cross E a b ≐ numeral 0) ∷ []) refl (h, tt))
+      (L.mul_positive p q))
 
   pub same_direction_trans : (a b c : Vector A) → cross R a b ≡ 𝟘 → IsPositive (dot R a b) → cross R b c ≡ 𝟘 → IsPositive (dot R b c) → (cross R a c ≡ 𝟘) × IsPositive (dot R a c)
-  same_direction_trans a b c h p k q =
-      ( parallel_trans a b c (dot_positive-ne-zero_left q) h k
-      , same_direction_dot b a c (parallel_comm a b h) (signs.positive_of_eq L (plane.dot_comm L.ring b a) p) q )
+  same_direction_trans a b c h p k q = (
+    parallel_trans a b c (dot_positive-ne-zero_left q) h k,
+    same_direction_dot b a c (parallel_comm a b h) (signs.positive_of_eq L (plane.dot_comm L.ring b a) p) q,
+  )
 
   -- ---- how one direction stands to another
 
@@ -139,15 +140,15 @@ module _ {A : Type 0} {R : Operations A} {IsPositive : A → Type 0} (L : IsOrde
   pub cross_trans : (w a b c : Vector A) → IsNonNegative R IsPositive (cross R w a) → IsPositive (cross R w b) → IsPositive (cross R w c) → IsPositive (cross R a b) → IsPositive (cross R b c) → IsPositive (cross R a c)
   cross_trans w a b c wa wb wc ab bc =
       signs.positive_of_mul_left L wb
-        (signs.positive_of_eq L (plane.cross-cross_middle L.ring w a b c)
-          (signs.add_non_negative_positive L (signs.mul_non_negative L wa (signs.non_negative_of_positive L bc)) (L.mul_positive wc ab)))
+      (signs.positive_of_eq L (plane.cross-cross_middle L.ring w a b c)
+      (signs.add_non_negative_positive L (signs.mul_non_negative L wa (signs.non_negative_of_positive L bc)) (L.mul_positive wc ab)))
 
   -- so is 'left of or along'
   pub cross_non_negative_trans : (w a b c : Vector A) → IsNonNegative R IsPositive (cross R w a) → IsPositive (cross R w b) → IsNonNegative R IsPositive (cross R w c) → IsNonNegative R IsPositive (cross R a b) → IsNonNegative R IsPositive (cross R b c) → IsNonNegative R IsPositive (cross R a c)
   cross_non_negative_trans w a b c wa wb wc ab bc n =
       signs.add_non_negative L (signs.mul_non_negative L wa bc) (signs.mul_non_negative L wc ab)
-        (positive_by_plane [] (w ∷ a ∷ b ∷ c ∷ [])
-          (λ w a b c. solver.negative (cross E w a ⊗ cross E b c ⊕ cross E w c ⊗ cross E a b) ≐ cross E w b ⊗ solver.negative (cross E a c)) refl (L.mul_positive wb n))
+      (positive_by_plane [] (w ∷ a ∷ b ∷ c ∷ [])
+      (λ w a b c. solver.negative (cross E w a ⊗ cross E b c ⊕ cross E w c ⊗ cross E a b) ≐ cross E w b ⊗ solver.negative (cross E a c)) refl (L.mul_positive wb n))
 
   -- ---- half planes
 
@@ -160,7 +161,7 @@ module _ {A : Type 0} {R : Operations A} {IsPositive : A → Type 0} (L : IsOrde
   half_plane_left h (inside p) ab = p
   half_plane_left {w} {a} {b} h (at_start e p) ab =
       absurd (half_plane_non_negative h
-        (cross_negative w a (same_direction_cross_right b w a (parallel_comm w b e) (signs.positive_of_eq L (plane.dot_comm L.ring b w) p) ab)))
+      (cross_negative w a (same_direction_cross_right b w a (parallel_comm w b e) (signs.positive_of_eq L (plane.dot_comm L.ring b w) p) ab)))
 
   -- 'left of' is transitive in a half plane
   pub half_plane_trans : {w a b c : Vector A} → InHalfPlane R IsPositive w a → InHalfPlane R IsPositive w b → InHalfPlane R IsPositive w c → IsPositive (cross R a b) → IsPositive (cross R b c) → IsPositive (cross R a c)
@@ -171,30 +172,31 @@ module _ {A : Type 0} {R : Operations A} {IsPositive : A → Type 0} (L : IsOrde
   pub half_plane_not_opposite : {w a b : Vector A} → InHalfPlane R IsPositive w a → InHalfPlane R IsPositive w b → cross R a b ≡ 𝟘 → IsPositive (neg (dot R a b)) → ⊥
   half_plane_not_opposite {w} {a} {b} (inside p) hb e n =
       half_plane_non_negative hb
-        (signs.negative_of_mul_left L (norm_positive a (cross_positive-ne-zero_right p))
-          (signs.positive_of_eq L
-            (plane_derived L.ring [] (w ∷ a ∷ b ∷ [])
-              (λ w a b. solver.negative (norm E a ⊗ cross E w b) ≐ cross E w a ⊗ solver.negative (dot E a b) from (solver.negative (dot E w a), cross E a b ≐ numeral 0) ∷ []) refl (e, tt))
-            (L.mul_positive p n)))
+      (signs.negative_of_mul_left L (norm_positive a (cross_positive-ne-zero_right p))
+      (signs.positive_of_eq L
+      (plane_derived L.ring [] (w ∷ a ∷ b ∷ [])
+      (λ w a b. solver.negative (norm E a ⊗ cross E w b) ≐ cross E w a ⊗ solver.negative (dot E a b) from (solver.negative (dot E w a), cross E a b ≐ numeral 0) ∷ []) refl (e, tt))
+      (L.mul_positive p n)))
   half_plane_not_opposite {w} {a} {b} (at_start z p) (inside q) e n =
       signs.positive-ne-zero L (L.mul_positive p q)
-        (plane_derived L.ring [] (w ∷ a ∷ b ∷ [])
-          (λ w a b. dot E w a ⊗ cross E w b ≐ numeral 0 from (norm E w, cross E a b ≐ numeral 0) ∷ (dot E w b, cross E w a ≐ numeral 0) ∷ []) refl (e, (z, tt)))
+      (plane_derived L.ring [] (w ∷ a ∷ b ∷ [])
+      (λ w a b. dot E w a ⊗ cross E w b ≐ numeral 0 from (norm E w, cross E a b ≐ numeral 0) ∷ (dot E w b, cross E w a ≐ numeral 0) ∷ []) refl (e, (z, tt)))
   half_plane_not_opposite {w} {a} {b} (at_start z p) (at_start y q) e n =
       signs.not_both_signs L (L.mul_positive p q)
-        (signs.positive_of_eq L
-          (plane_derived L.ring [] (w ∷ a ∷ b ∷ [])
-            (λ w a b. solver.negative (dot E w a ⊗ dot E w b) ≐ norm E w ⊗ solver.negative (dot E a b) from (cross E w b, cross E w a ≐ numeral 0) ∷ []) refl (z, tt))
-          (L.mul_positive (norm_positive w (dot_positive-ne-zero_left p)) n))
+      (signs.positive_of_eq L
+      (plane_derived L.ring [] (w ∷ a ∷ b ∷ [])
+      (λ w a b. solver.negative (dot E w a ⊗ dot E w b) ≐ norm E w ⊗ solver.negative (dot E a b) from (cross E w b, cross E w a ≐ numeral 0) ∷ []) refl (z, tt))
+      (L.mul_positive (norm_positive w (dot_positive-ne-zero_left p)) n))
 
   -- a vector off zero stands in one of the two half planes of a line
   pub half_plane_cases : (w a : Vector A) → w ≢ zero_vector R → a ≢ zero_vector R → InHalfPlane R IsPositive w a ⊎ InHalfPlane R IsPositive (neg_vector R w) a
   half_plane_cases w a m n =
-      elim (turn w a m n)
-        [ left p ↦ inl (inside p)
+      elim (turn w a m n) [
+        | left p ↦ inl (inside p)
         | right p ↦ inr (inside (positive_by_plane [] (w ∷ a ∷ []) (λ w a. cross E (neg_vector E w) a ≐ cross E a w) refl p))
         | same e p ↦ inl (at_start e p)
-        | opposite e p ↦ inr (at_start (plane.cross-neg_left L.ring w a ∙ ap neg e ∙ ring.neg_zero L.ring) (signs.positive_of_eq L (plane.dot-neg_left L.ring w a) p)) ]
+        | opposite e p ↦ inr (at_start (plane.cross-neg_left L.ring w a ∙ ap neg e ∙ ring.neg_zero L.ring) (signs.positive_of_eq L (plane.dot-neg_left L.ring w a) p))
+      ]
 
   -- and in one only
   pub half_plane_one : {w a : Vector A} → InHalfPlane R IsPositive w a → InHalfPlane R IsPositive (neg_vector R w) a → ⊥
@@ -208,19 +210,20 @@ module _ {A : Type 0} {R : Operations A} {IsPositive : A → Type 0} (L : IsOrde
   pub between_cross : (w a b c : Vector A) → IsPositive (cross R a b) → IsPositive (cross R b c) → IsPositive (cross R a c) → IsPositive (cross R w a) → IsPositive (cross R w c) → IsPositive (cross R w b)
   between_cross w a b c ab bc ac wa wc =
       signs.positive_of_mul_right L ac
-        (signs.positive_of_eq L (plane.cross-cross_middle L.ring w a b c) (L.add_positive (L.mul_positive wa bc) (L.mul_positive wc ab)))
+      (signs.positive_of_eq L (plane.cross-cross_middle L.ring w a b c) (L.add_positive (L.mul_positive wa bc) (L.mul_positive wc ab)))
 
   -- what makes an acute angle with both makes one with the vector between them
   pub between_dot : (w a b c : Vector A) → IsPositive (cross R a b) → IsPositive (cross R b c) → IsPositive (cross R a c) → IsPositive (dot R w a) → IsPositive (dot R w c) → IsPositive (dot R w b)
   between_dot w a b c ab bc ac wa wc =
       signs.positive_of_mul_right L ac
-        (signs.positive_of_eq L (plane.dot-cross_middle L.ring w a b c) (L.add_positive (L.mul_positive wa bc) (L.mul_positive wc ab)))
+      (signs.positive_of_eq L (plane.dot-cross_middle L.ring w a b c) (L.add_positive (L.mul_positive wa bc) (L.mul_positive wc ab)))
 
   -- a positive combination of two vectors is between them
   pub between_of_combination : (s t : A) (a c : Vector A) → IsPositive s → IsPositive t → IsPositive (cross R a c) → IsPositive (cross R a (add_vector R (scale R s a) (scale R t c))) × IsPositive (cross R (add_vector R (scale R s a) (scale R t c)) c)
-  between_of_combination s t a c p q h =
-      ( positive_by_plane (s ∷ t ∷ []) (a ∷ c ∷ []) (λ s t a c. cross E a (add_vector E (scale E s a) (scale E t c)) ≐ t ⊗ cross E a c) refl (L.mul_positive q h)
-      , positive_by_plane (s ∷ t ∷ []) (a ∷ c ∷ []) (λ s t a c. cross E (add_vector E (scale E s a) (scale E t c)) c ≐ s ⊗ cross E a c) refl (L.mul_positive p h) )
+  between_of_combination s t a c p q h = (
+    positive_by_plane (s ∷ t ∷ []) (a ∷ c ∷ []) (λ s t a c. cross E a (add_vector E (scale E s a) (scale E t c)) ≐ t ⊗ cross E a c) refl (L.mul_positive q h),
+    positive_by_plane (s ∷ t ∷ []) (a ∷ c ∷ []) (λ s t a c. cross E (add_vector E (scale E s a) (scale E t c)) c ≐ s ⊗ cross E a c) refl (L.mul_positive p h),
+  )
 
   pub cross-add_self_right : (a b : Vector A) → IsPositive (cross R a b) → IsPositive (cross R a (add_vector R a b))
   cross-add_self_right a b = positive_by_plane [] (a ∷ b ∷ []) (λ a b. cross E a (add_vector E a b) ≐ cross E a b) refl

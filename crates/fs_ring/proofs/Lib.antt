@@ -7,3 +7,4 @@ pub mod AbsoluteValue
 pub mod PlaneSolver
 pub mod Plane
 pub mod Directions
+pub mod Integers

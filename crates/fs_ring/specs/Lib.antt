@@ -2,3 +2,4 @@ pub mod Operations
 pub mod CommutativeRing
 pub mod OrderedRing
 pub mod Vector
+pub mod Integers
