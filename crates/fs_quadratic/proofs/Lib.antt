@@ -1,0 +1,2 @@
+pub mod NormForm
+pub mod SquareRoot
