@@ -1,2 +1,4 @@
 pub mod NormForm
 pub mod SquareRoot
+pub mod Laws
+pub mod SignLemmas
