@@ -1,7 +1,7 @@
 -- The numbers p + q·√d are an ordered ring, for every d that isn't a square.
-use Rattle.std.proofs.Common.{◌≡◌, ℕ, zero, suc, ◌<◌, ℤ, pos, neg_ℤ, ◌+ℤ◌, ◌*ℤ◌, ◌<ℤ◌, ◌≤ℤ◌, List, [], ◌∷◌, refl, sym, ap, ◌∙◌, inl, inr, arith}
+use Rattle.std.proofs.Common.{◌≡◌, ℕ, zero, suc, ℤ, pos, ◌*ℤ◌, [], ◌∷◌, refl, sym, ap, inl, inr, arith}
 use Rattle.std.proofs.lemmas.Int.{ints, by_lt_z}
-use Rattle.fs_ring.specs.Operations.{Operations, sub, square}
+use Rattle.fs_ring.specs.Operations.{Operations}
 use Rattle.fs_ring.specs.CommutativeRing.{IsCommutativeRing}
 use Rattle.fs_ring.specs.OrderedRing.{IsOrderedRing, Sign, positive, null, negative}
 use Rattle.fs_ring.specs.Vector.{Vector}
@@ -12,7 +12,7 @@ use Rattle.fs_ring.proofs.Integers.{integer_ring, integer_order, less-is, non_ne
 use Rattle.fs_ring.proofs.Solver.{expressions as E, numeral}
 use Rattle.fs_ring.proofs.PlaneSolver.{vector_identity, ◌≐ᵥ◌}
 use Rattle.fs_quadratic.specs.Radicand.{IsRadicand, IsNoSquare}
-use Rattle.fs_quadratic.specs.Ring.{Quadratic, zero as nil, one, add, neg, mul, quadratic, IsPositive, both, by_p, by_q}
+use Rattle.fs_quadratic.specs.Ring.{Quadratic, zero as nil, quadratic, IsPositive, both, by_p, by_q}
 use Rattle.fs_quadratic.proofs.NormForm as form
 use Rattle.fs_quadratic.proofs.NormForm.{norm_form, IsAbove, p_leads, q_leads}
 use Rattle.fs_quadratic.proofs.SquareRoot.{irrational, radicand_no_square}
@@ -41,7 +41,8 @@ quadratic_ring d = record {
   mul_comm = λ x y. ap number (vector_identity integer_ring (pos d ∷ []) (pair x ∷ pair y ∷ []) (λ c a b. product E c a b ≐ᵥ product E c b a) refl);
   mul_one = λ x. ap number (vector_identity integer_ring (pos d ∷ []) (pair x ∷ []) (λ c a. product E c a (record { x = numeral 1; y = numeral 0 }) ≐ᵥ a) refl);
   mul_add = λ x y z. ap number (vector_identity integer_ring (pos d ∷ []) (pair x ∷ pair y ∷ pair z ∷ [])
-    (λ c a b e. product E c a (record { x = E.add b.x e.x; y = E.add b.y e.y }) ≐ᵥ (let l = product E c a b in let r = product E c a e in record { x = E.add l.x r.x; y = E.add l.y r.y })) refl) }
+      (λ c a b e. product E c a (record { x = E.add b.x e.x; y = E.add b.y e.y }) ≐ᵥ (let l = product E c a b in let r = product E c a e in record { x = E.add l.x r.x; y = E.add l.y r.y })) refl);
+}
 
 -- ---- the order
 
@@ -60,18 +61,19 @@ above_of_positive {d} {x} no_square (by_q hp hq h) =
 positive_of_above : {d : ℕ} {x : Quadratic} → IsAbove integers (pos d) IsPositiveInteger x.p x.q → IsPositive d x
 positive_of_above {d} {x} (p_leads f h) =
     by_lt_z x.q (pos 0)
-      (λ k. by_p h k ((less-is (pos d *ℤ (x.q *ℤ x.q)) (x.p *ℤ x.p)).1 f))
-      (λ k. both (omega (arith, ints)) k (λ zeros. signs.positive-ne-zero integer_order h zeros.0))
+    (λ k. by_p h k ((less-is (pos d *ℤ (x.q *ℤ x.q)) (x.p *ℤ x.p)).1 f))
+    (λ k. both (omega (arith, ints)) k (λ zeros. signs.positive-ne-zero integer_order h zeros.0))
 positive_of_above {d} {x} (q_leads f h) =
     by_lt_z x.p (pos 0)
-      (λ k. by_q k h ((less-is (x.p *ℤ x.p) (pos d *ℤ (x.q *ℤ x.q))).1 (signs.positive_of_eq integer_order (sym (ring.neg-sub integer_ring (x.p *ℤ x.p) (pos d *ℤ (x.q *ℤ x.q)))) f)))
-      (λ k. both k (omega (arith, ints)) (λ zeros. signs.positive-ne-zero integer_order h zeros.1))
+    (λ k. by_q k h ((less-is (x.p *ℤ x.p) (pos d *ℤ (x.q *ℤ x.q))).1 (signs.positive_of_eq integer_order (sym (ring.neg-sub integer_ring (x.p *ℤ x.p) (pos d *ℤ (x.q *ℤ x.q)))) f)))
+    (λ k. both k (omega (arith, ints)) (λ zeros. signs.positive-ne-zero integer_order h zeros.1))
 
 quadratic_sign : {d : ℕ} → IsNoSquare d → (x : Quadratic) → Sign (quadratic d) (IsPositive d) x
 quadratic_sign {d} no_square x =
-    elim (form.above_cases integer_order (pos d) (positive_radicand no_square) (irrational no_square) x.p x.q)
-      [ inl h ↦ positive (positive_of_above h)
-      | inr c ↦ elim c [ inl zeros ↦ null (quadratic_eq zeros.0 zeros.1) | inr h ↦ negative (positive_of_above h) ] ]
+    elim (form.above_cases integer_order (pos d) (positive_radicand no_square) (irrational no_square) x.p x.q) [
+      | inl h ↦ positive (positive_of_above h)
+      | inr c ↦ elim c [ inl zeros ↦ null (quadratic_eq zeros.0 zeros.1) | inr h ↦ negative (positive_of_above h) ]
+    ]
 
 -- p + q·√d is an ordered ring where d isn't a square
 pub quadratic_order : {d : ℕ} → IsNoSquare d → IsOrderedRing (quadratic d) (IsPositive d)
@@ -81,8 +83,15 @@ quadratic_order {d} no_square = record {
   zero_not_positive = λ h. form.not_above_zero integer_order (pos d) (positive_radicand no_square) (above_of_positive no_square h);
   add_positive = λ h k. positive_of_above (form.above_add integer_order (pos d) (positive_radicand no_square) (irrational no_square) (above_of_positive no_square h) (above_of_positive no_square k));
   mul_positive = λ h k. positive_of_above (form.above_mul integer_order (pos d) (positive_radicand no_square) (above_of_positive no_square h) (above_of_positive no_square k));
-  trichotomy = quadratic_sign no_square }
+  trichotomy = quadratic_sign no_square;
+}
 
 -- so it is for the d of each field
 pub laws : {d : ℕ} → IsRadicand d → IsOrderedRing (quadratic d) (IsPositive d)
 laws h = quadratic_order (radicand_no_square h)
+
+-- p² = d·q² only at zero: √d is no fraction
+pub zero_of_squares : {d : ℕ} → IsNoSquare d → (x : Quadratic) → x.p *ℤ x.p ≡ pos d *ℤ (x.q *ℤ x.q) → x ≡ nil
+zero_of_squares {d} no_square x e =
+    let zeros = form.zero_of_norm_form-zero integer_order (pos d) (positive_radicand no_square) (irrational no_square) x.p x.q (ring.sub-zero_of_eq integer_ring (x.p *ℤ x.p) (pos d *ℤ (x.q *ℤ x.q)) e) in
+    quadratic_eq zeros.0 zeros.1

@@ -1,4 +1,4 @@
 pub mod NormForm
 pub mod SquareRoot
 pub mod Laws
-pub mod SignLemmas
+pub mod Signs

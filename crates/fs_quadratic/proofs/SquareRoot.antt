@@ -1,5 +1,5 @@
 -- The root of a number that isn't a square is no fraction.
-use Rattle.std.proofs.Common.{◌≡◌, ◌≢◌, ℕ, zero, suc, ◌+◌, ◌*◌, ◌%◌, ◌<◌, ◌≤◌, ℤ, pos, negsuc, neg_ℤ, ◌+ℤ◌, ◌*ℤ◌, ◌<ℤ◌, nat_abs, List, [], ◌∷◌, refl, sym, ap, ◌∙◌, subst, arith, mod-lt}
+use Rattle.std.proofs.Common.{◌≡◌, ◌≢◌, ℕ, zero, suc, ◌+◌, ◌*◌, ◌%◌, ◌<◌, ◌≤◌, ℤ, pos, negsuc, ◌*ℤ◌, nat_abs, [], ◌∷◌, refl, sym, ap, ◌∙◌, subst, arith}
 use Rattle.std.proofs.lemmas.Int.{ints}
 use Rattle.std.proofs.Math.Nat.{mod_self}
 use native.Mathlib.Decide.{dec_lt}
@@ -34,26 +34,27 @@ root (suc n) = let (k, h) = root n in next_root n k h (dec_lt (suc n) (suc k * s
 
 module _ {A : Type 0} {R : Operations A} {IsPositive : A → Type 0} (L : IsOrderedRing R IsPositive) where
   open R use {add as ◌⊞◌, mul as ◌⊠◌, one as 𝟙}
+
   infixl 60 ◌⊞◌ ◌⊟◌
   infixl 70 ◌⊠◌
-
   abbrev ◌⊟◌ : A → A → A
   x ⊟ y = sub R x y
 
   -- from m² = d·n², with k² < d < (k + 1)², to a smaller pair
   descent : (d k m n : A) → IsNonNegative R IsPositive m → IsNonNegative R IsPositive k → IsPositive n → IsPositive (d ⊟ square R k) → IsPositive (square R (k ⊞ 𝟙) ⊟ d) → square R m ≡ d ⊠ square R n
-    → IsPositive (m ⊟ k ⊠ n) × IsPositive (n ⊟ (m ⊟ k ⊠ n)) × (square R (d ⊠ n ⊟ k ⊠ m) ≡ d ⊠ square R (m ⊟ k ⊠ n))
-  descent d k m n hm hk hn low high e =
-      ( order.less_of_square_less L (k ⊠ n) m hm
-          (signs.positive_of_eq L
-            (derived L.ring (d ∷ k ∷ m ∷ n ∷ []) (λ d k m n. square E m ⊖ square E (k ⊗ n) ≐ (d ⊖ square E k) ⊗ square E n from (numeral 1, square E m ≐ d ⊗ square E n) ∷ []) refl (e, tt))
-            (L.mul_positive low (L.mul_positive hn hn)))
-      , signs.positive_by L (d ∷ k ∷ m ∷ n ∷ []) (λ d k m n. n ⊖ (m ⊖ k ⊗ n) ≐ (k ⊕ numeral 1) ⊗ n ⊖ m) refl
-          (order.less_of_square_less L m ((k ⊞ 𝟙) ⊠ n) (signs.mul_non_negative L (signs.add_non_negative L hk (signs.non_negative_of_positive L L.one_positive)) (signs.non_negative_of_positive L hn))
-            (signs.positive_of_eq L
-              (derived L.ring (d ∷ k ∷ m ∷ n ∷ []) (λ d k m n. square E ((k ⊕ numeral 1) ⊗ n) ⊖ square E m ≐ (square E (k ⊕ numeral 1) ⊖ d) ⊗ square E n from (solver.negative (numeral 1), square E m ≐ d ⊗ square E n) ∷ []) refl (e, tt))
-              (L.mul_positive high (L.mul_positive hn hn))))
-      , derived L.ring (d ∷ k ∷ m ∷ n ∷ []) (λ d k m n. square E (d ⊗ n ⊖ k ⊗ m) ≐ d ⊗ square E (m ⊖ k ⊗ n) from (solver.negative (d ⊖ square E k), square E m ≐ d ⊗ square E n) ∷ []) refl (e, tt) )
+      → IsPositive (m ⊟ k ⊠ n) × IsPositive (n ⊟ (m ⊟ k ⊠ n)) × (square R (d ⊠ n ⊟ k ⊠ m) ≡ d ⊠ square R (m ⊟ k ⊠ n))
+  descent d k m n hm hk hn low high e = (
+    order.less_of_square_less L (k ⊠ n) m hm
+        (signs.positive_of_eq L
+        (derived L.ring (d ∷ k ∷ m ∷ n ∷ []) (λ d k m n. square E m ⊖ square E (k ⊗ n) ≐ (d ⊖ square E k) ⊗ square E n from (numeral 1, square E m ≐ d ⊗ square E n) ∷ []) refl (e, tt))
+        (L.mul_positive low (L.mul_positive hn hn))),
+    signs.positive_by L (d ∷ k ∷ m ∷ n ∷ []) (λ d k m n. n ⊖ (m ⊖ k ⊗ n) ≐ (k ⊕ numeral 1) ⊗ n ⊖ m) refl
+        (order.less_of_square_less L m ((k ⊞ 𝟙) ⊠ n) (signs.mul_non_negative L (signs.add_non_negative L hk (signs.non_negative_of_positive L L.one_positive)) (signs.non_negative_of_positive L hn))
+        (signs.positive_of_eq L
+        (derived L.ring (d ∷ k ∷ m ∷ n ∷ []) (λ d k m n. square E ((k ⊕ numeral 1) ⊗ n) ⊖ square E m ≐ (square E (k ⊕ numeral 1) ⊖ d) ⊗ square E n from (solver.negative (numeral 1), square E m ≐ d ⊗ square E n) ∷ []) refl (e, tt))
+        (L.mul_positive high (L.mul_positive hn hn)))),
+    derived L.ring (d ∷ k ∷ m ∷ n ∷ []) (λ d k m n. square E (d ⊗ n ⊖ k ⊗ m) ≐ d ⊗ square E (m ⊖ k ⊗ n) from (solver.negative (d ⊖ square E k), square E m ≐ d ⊗ square E n) ∷ []) refl (e, tt),
+  )
 
 square-nat_abs : (z : ℤ) → pos (nat_abs z) *ℤ pos (nat_abs z) ≡ z *ℤ z
 square-nat_abs (pos n) = refl
@@ -83,25 +84,25 @@ smaller_of d n (negsuc t) u h k e = absurd h.lt
 module _ {d : ℕ} (no_square : IsNoSquare d) where
   smaller : (n : ℕ) (m : ℤ) → 0 < n → m *ℤ m ≡ pos d *ℤ (pos n *ℤ pos n) → Smaller d n
   smaller n m h e =
-    let (k, bounds) = root d in
-    let low : k * k < d = strictly_below (k * k) d bounds.0 (no_square k) in
-    let a = nat_abs m in
-    let (t_positive, t_below, equation) =
+      let (k, bounds) = root d in
+      let low : k * k < d = strictly_below (k * k) d bounds.0 (no_square k) in
+      let a = nat_abs m in
+      let (t_positive, t_below, equation) =
       descent integer_order (pos d) (pos k) (pos a) (pos n) (pos_non_negative a) (pos_non_negative k) (omega (arith, ints))
-        (difference_positive (k * k) d low) (difference_positive d ((k + 1) * (k + 1)) (omega arith)) (square-nat_abs m ∙ e) in
-    smaller_of d n (sub integers (pos a) (pos (k * n))) (sub integers (pos (d * n)) (pos (k * a))) t_positive t_below equation
+      (difference_positive (k * k) d low) (difference_positive d ((k + 1) * (k + 1)) (omega arith)) (square-nat_abs m ∙ e) in
+      smaller_of d n (sub integers (pos a) (pos (k * n))) (sub integers (pos (d * n)) (pos (k * a))) t_positive t_below equation
 
   no_root : (bound n : ℕ) → n ≤ bound → (m : ℤ) → m *ℤ m ≡ pos d *ℤ (pos n *ℤ pos n) → n ≡ 0
   no_root bound zero h m e = refl
   no_root zero (suc n) h m e = absurd (omega arith)
   no_root (suc bound) (suc n) h m e =
-    let (t, t_positive, t_below, (u, equation)) = smaller (suc n) m (omega arith) e in
-    let t_zero : t ≡ 0 = no_root bound t (omega arith) u equation in
-    absurd (omega arith)
+      let (t, t_positive, t_below, (u, equation)) = smaller (suc n) m (omega arith) e in
+      let t_zero : t ≡ 0 = no_root bound t (omega arith) u equation in
+      absurd (omega arith)
 
   -- p² = d·q² only where q is 0
   pub irrational : (p q : ℤ) → p *ℤ p ≡ pos d *ℤ (q *ℤ q) → q ≡ pos 0
   irrational p q e =
-    let n = nat_abs q in
-    let n_zero : n ≡ 0 = no_root n n (omega arith) p (e ∙ ap (λ v. pos d *ℤ v) (sym (square-nat_abs q))) in
-    nat_abs-zero q n_zero
+      let n = nat_abs q in
+      let n_zero : n ≡ 0 = no_root n n (omega arith) p (e ∙ ap (λ v. pos d *ℤ v) (sym (square-nat_abs q))) in
+      nat_abs-zero q n_zero

@@ -82,7 +82,10 @@ impl Elem {
         ensures difference { OkIff result (Fits (sub self y)) (sub self y) }
         ensures refused { IfErr result (λ e. e ≡ Op.Sub) }
     {
-        match (checked_difference(self.p, y.p), checked_difference(self.q, y.q)) {
+        match (
+            checked_difference(self.p, y.p),
+            checked_difference(self.q, y.q),
+        ) {
             (Some(p), Some(q)) => Ok(Elem { p, q }),
             _ => Err(Op::Sub),
         }
