@@ -86,9 +86,9 @@ quadratic_order {d} no_square = record {
   trichotomy = quadratic_sign no_square;
 }
 
--- so it is for the d of each field
-pub laws : {d : ℕ} → IsRadicand d → IsOrderedRing (quadratic d) (IsPositive d)
-laws h = quadratic_order (radicand_no_square h)
+-- the numbers of each field are an ordered ring
+pub field_order : {d : ℕ} → IsRadicand d → IsOrderedRing (quadratic d) (IsPositive d)
+field_order h = quadratic_order (radicand_no_square h)
 
 -- p² = d·q² only at zero: √d is no fraction
 pub zero_of_squares : {d : ℕ} → IsNoSquare d → (x : Quadratic) → x.p *ℤ x.p ≡ pos d *ℤ (x.q *ℤ x.q) → x ≡ nil

@@ -1,9 +1,9 @@
 -- Lengths and directions of vectors over an ordered ring.
-use Rattle.std.proofs.Common.{◌≡◌, ◌≢◌, ◌⊎◌, true, List, [], ◌∷◌, refl, sym, ap, ◌∙◌, inl, inr}
+use Rattle.std.proofs.Common.{◌≡◌, ◌≢◌, ◌⊎◌, true, List, [], ◌∷◌, refl, ap, ◌∙◌, inl, inr}
 use Rattle.fs_ring.specs.Operations.{Operations, square}
 use Rattle.fs_ring.specs.OrderedRing.{IsOrderedRing, Sign, positive, null, negative, IsAtMost, IsNonNegative}
-use Rattle.fs_ring.specs.Vector.{Vector, zero_vector, add_vector, neg_vector, scale, cross, dot, norm, Turn, left, right, same, opposite, InHalfPlane, inside, at_start}
-use Rattle.fs_ring.proofs.RingLaws as ring
+use Rattle.fs_ring.specs.Vector.{Vector, zero_vector, add_vector, scale, cross, dot, norm}
+use Rattle.fs_ring.specs.Direction.{IsAlong, Turn, left, right, along, opposite}
 use Rattle.fs_ring.proofs.Signs as signs
 use Rattle.fs_ring.proofs.Plane as plane
 use Rattle.fs_ring.proofs.Solver.{Equation, is_identity, evaluate, expressions as E, numeral, ◌⊕◌, ◌⊖◌, ◌⊗◌, ◌≐◌, ◌from◌}
@@ -92,37 +92,44 @@ module _ {A : Type 0} {R : Operations A} {IsPositive : A → Type 0} (L : IsOrde
 
   -- ---- vectors of one direction
 
+  pub along_self : (a : Vector A) → a ≢ zero_vector R → IsAlong R IsPositive a a
+  along_self a n = record { parallel = plane.cross_self L.ring a; same_way = norm_positive a n }
+
+  pub along_comm : {a b : Vector A} → IsAlong R IsPositive a b → IsAlong R IsPositive b a
+  along_comm {a} {b} h = record { parallel = parallel_comm a b h.parallel; same_way = signs.positive_of_eq L (plane.dot_comm L.ring b a) h.same_way }
+
   -- they have the same vectors to their left
-  pub same_direction_cross : (a b c : Vector A) → cross R a b ≡ 𝟘 → IsPositive (dot R a b) → IsPositive (cross R a c) → IsPositive (cross R b c)
-  same_direction_cross a b c h p q =
-      signs.positive_of_mul_left L (norm_positive a (cross_positive-ne-zero_left q))
+  pub along_cross : {a b : Vector A} (c : Vector A) → IsAlong R IsPositive a b → IsPositive (cross R a c) → IsPositive (cross R b c)
+  along_cross {a} {b} c h p =
+      signs.positive_of_mul_left L (norm_positive a (cross_positive-ne-zero_left p))
       (signs.positive_of_eq L
       (plane_derived L.ring [] (a ∷ b ∷ c ∷ [])
-      (λ a b c. norm E a ⊗ cross E b c ≐ dot E a b ⊗ cross E a c from (solver.negative (dot E a c), cross E a b ≐ numeral 0) ∷ []) refl (h, tt))
-      (L.mul_positive p q))
+      (λ a b c. norm E a ⊗ cross E b c ≐ dot E a b ⊗ cross E a c from (solver.negative (dot E a c), cross E a b ≐ numeral 0) ∷ []) refl (h.parallel, tt))
+      (L.mul_positive h.same_way p))
 
   -- and to their right
-  pub same_direction_cross_right : (a b c : Vector A) → cross R a b ≡ 𝟘 → IsPositive (dot R a b) → IsPositive (cross R c a) → IsPositive (cross R c b)
-  same_direction_cross_right a b c h p q =
-      signs.positive_of_mul_left L (norm_positive a (cross_positive-ne-zero_right q))
+  pub along_cross_right : {a b : Vector A} (c : Vector A) → IsAlong R IsPositive a b → IsPositive (cross R c a) → IsPositive (cross R c b)
+  along_cross_right {a} {b} c h p =
+      signs.positive_of_mul_left L (norm_positive a (cross_positive-ne-zero_right p))
       (signs.positive_of_eq L
       (plane_derived L.ring [] (a ∷ b ∷ c ∷ [])
-      (λ a b c. norm E a ⊗ cross E c b ≐ dot E a b ⊗ cross E c a from (dot E a c, cross E a b ≐ numeral 0) ∷ []) refl (h, tt))
-      (L.mul_positive p q))
+      (λ a b c. norm E a ⊗ cross E c b ≐ dot E a b ⊗ cross E c a from (dot E a c, cross E a b ≐ numeral 0) ∷ []) refl (h.parallel, tt))
+      (L.mul_positive h.same_way p))
 
-  pub same_direction_dot : (a b c : Vector A) → cross R a b ≡ 𝟘 → IsPositive (dot R a b) → IsPositive (dot R a c) → IsPositive (dot R b c)
-  same_direction_dot a b c h p q =
-      signs.positive_of_mul_left L (norm_positive a (dot_positive-ne-zero_left q))
+  -- they make acute angles with the same vectors
+  pub along_dot : {a b : Vector A} (c : Vector A) → IsAlong R IsPositive a b → IsPositive (dot R a c) → IsPositive (dot R b c)
+  along_dot {a} {b} c h p =
+      signs.positive_of_mul_left L (norm_positive a (dot_positive-ne-zero_left p))
       (signs.positive_of_eq L
       (plane_derived L.ring [] (a ∷ b ∷ c ∷ [])
-      (λ a b c. norm E a ⊗ dot E b c ≐ dot E a b ⊗ dot E a c from (cross E a c, cross E a b ≐ numeral 0) ∷ []) refl (h, tt))
-      (L.mul_positive p q))
+      (λ a b c. norm E a ⊗ dot E b c ≐ dot E a b ⊗ dot E a c from (cross E a c, cross E a b ≐ numeral 0) ∷ []) refl (h.parallel, tt))
+      (L.mul_positive h.same_way p))
 
-  pub same_direction_trans : (a b c : Vector A) → cross R a b ≡ 𝟘 → IsPositive (dot R a b) → cross R b c ≡ 𝟘 → IsPositive (dot R b c) → (cross R a c ≡ 𝟘) × IsPositive (dot R a c)
-  same_direction_trans a b c h p k q = (
-    parallel_trans a b c (dot_positive-ne-zero_left q) h k,
-    same_direction_dot b a c (parallel_comm a b h) (signs.positive_of_eq L (plane.dot_comm L.ring b a) p) q,
-  )
+  pub along_trans : {a b c : Vector A} → IsAlong R IsPositive a b → IsAlong R IsPositive b c → IsAlong R IsPositive a c
+  along_trans {a} {b} {c} h k = record {
+    parallel = parallel_trans a b c (dot_positive-ne-zero_left k.same_way) h.parallel k.parallel;
+    same_way = along_dot c (along_comm h) k.same_way;
+  }
 
   -- ---- how one direction stands to another
 
@@ -132,7 +139,7 @@ module _ {A : Type 0} {R : Operations A} {IsPositive : A → Type 0} (L : IsOrde
       go : Sign R IsPositive (cross R a b) → Sign R IsPositive (dot R a b) → Turn R IsPositive a b
       go (positive p) s = left p
       go (negative p) s = right (cross_positive a b p)
-      go (null e) (positive p) = same e p
+      go (null e) (positive p) = along (record { parallel = e; same_way = p })
       go (null e) (negative p) = opposite e p
       go (null e) (null f) = absurd (elim (zero_of_cross_dot-zero a b e f) [ inl z ↦ m z | inr z ↦ n z ])
 
@@ -149,60 +156,6 @@ module _ {A : Type 0} {R : Operations A} {IsPositive : A → Type 0} (L : IsOrde
       signs.add_non_negative L (signs.mul_non_negative L wa bc) (signs.mul_non_negative L wc ab)
       (positive_by_plane [] (w ∷ a ∷ b ∷ c ∷ [])
       (λ w a b c. solver.negative (cross E w a ⊗ cross E b c ⊕ cross E w c ⊗ cross E a b) ≐ cross E w b ⊗ solver.negative (cross E a c)) refl (L.mul_positive wb n))
-
-  -- ---- half planes
-
-  pub half_plane_non_negative : {w a : Vector A} → InHalfPlane R IsPositive w a → IsNonNegative R IsPositive (cross R w a)
-  half_plane_non_negative (inside p) = signs.non_negative_of_positive L p
-  half_plane_non_negative (at_start e p) = signs.non_negative_of_zero L e
-
-  -- what stands in the half plane and left of one of its vectors is off its first ray
-  pub half_plane_left : {w a b : Vector A} → InHalfPlane R IsPositive w a → InHalfPlane R IsPositive w b → IsPositive (cross R a b) → IsPositive (cross R w b)
-  half_plane_left h (inside p) ab = p
-  half_plane_left {w} {a} {b} h (at_start e p) ab =
-      absurd (half_plane_non_negative h
-      (cross_negative w a (same_direction_cross_right b w a (parallel_comm w b e) (signs.positive_of_eq L (plane.dot_comm L.ring b w) p) ab)))
-
-  -- 'left of' is transitive in a half plane
-  pub half_plane_trans : {w a b c : Vector A} → InHalfPlane R IsPositive w a → InHalfPlane R IsPositive w b → InHalfPlane R IsPositive w c → IsPositive (cross R a b) → IsPositive (cross R b c) → IsPositive (cross R a c)
-  half_plane_trans {w} {a} {b} {c} ha hb hc ab bc =
-      cross_trans w a b c (half_plane_non_negative ha) (half_plane_left ha hb ab) (half_plane_left hb hc bc) ab bc
-
-  -- no two vectors of a half plane are opposite
-  pub half_plane_not_opposite : {w a b : Vector A} → InHalfPlane R IsPositive w a → InHalfPlane R IsPositive w b → cross R a b ≡ 𝟘 → IsPositive (neg (dot R a b)) → ⊥
-  half_plane_not_opposite {w} {a} {b} (inside p) hb e n =
-      half_plane_non_negative hb
-      (signs.negative_of_mul_left L (norm_positive a (cross_positive-ne-zero_right p))
-      (signs.positive_of_eq L
-      (plane_derived L.ring [] (w ∷ a ∷ b ∷ [])
-      (λ w a b. solver.negative (norm E a ⊗ cross E w b) ≐ cross E w a ⊗ solver.negative (dot E a b) from (solver.negative (dot E w a), cross E a b ≐ numeral 0) ∷ []) refl (e, tt))
-      (L.mul_positive p n)))
-  half_plane_not_opposite {w} {a} {b} (at_start z p) (inside q) e n =
-      signs.positive-ne-zero L (L.mul_positive p q)
-      (plane_derived L.ring [] (w ∷ a ∷ b ∷ [])
-      (λ w a b. dot E w a ⊗ cross E w b ≐ numeral 0 from (norm E w, cross E a b ≐ numeral 0) ∷ (dot E w b, cross E w a ≐ numeral 0) ∷ []) refl (e, (z, tt)))
-  half_plane_not_opposite {w} {a} {b} (at_start z p) (at_start y q) e n =
-      signs.not_both_signs L (L.mul_positive p q)
-      (signs.positive_of_eq L
-      (plane_derived L.ring [] (w ∷ a ∷ b ∷ [])
-      (λ w a b. solver.negative (dot E w a ⊗ dot E w b) ≐ norm E w ⊗ solver.negative (dot E a b) from (cross E w b, cross E w a ≐ numeral 0) ∷ []) refl (z, tt))
-      (L.mul_positive (norm_positive w (dot_positive-ne-zero_left p)) n))
-
-  -- a vector off zero stands in one of the two half planes of a line
-  pub half_plane_cases : (w a : Vector A) → w ≢ zero_vector R → a ≢ zero_vector R → InHalfPlane R IsPositive w a ⊎ InHalfPlane R IsPositive (neg_vector R w) a
-  half_plane_cases w a m n =
-      elim (turn w a m n) [
-        | left p ↦ inl (inside p)
-        | right p ↦ inr (inside (positive_by_plane [] (w ∷ a ∷ []) (λ w a. cross E (neg_vector E w) a ≐ cross E a w) refl p))
-        | same e p ↦ inl (at_start e p)
-        | opposite e p ↦ inr (at_start (plane.cross-neg_left L.ring w a ∙ ap neg e ∙ ring.neg_zero L.ring) (signs.positive_of_eq L (plane.dot-neg_left L.ring w a) p))
-      ]
-
-  -- and in one only
-  pub half_plane_one : {w a : Vector A} → InHalfPlane R IsPositive w a → InHalfPlane R IsPositive (neg_vector R w) a → ⊥
-  half_plane_one {w} {a} (inside p) k = half_plane_non_negative k (signs.positive_of_eq L (ap neg (plane.cross-neg_left L.ring w a)) (signs.neg-neg_positive L p))
-  half_plane_one {w} {a} (at_start e p) (inside q) = signs.negative-ne-zero L (signs.positive_of_eq L (sym (plane.cross-neg_left L.ring w a)) q) e
-  half_plane_one {w} {a} (at_start e p) (at_start f q) = signs.not_both_signs L p (signs.positive_of_eq L (sym (plane.dot-neg_left L.ring w a)) q)
 
   -- ---- between two directions, less than half a turn apart
 

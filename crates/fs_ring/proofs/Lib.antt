@@ -7,4 +7,6 @@ pub mod AbsoluteValue
 pub mod PlaneSolver
 pub mod Plane
 pub mod Directions
+pub mod HalfPlanes
+pub mod Hinges
 pub mod Integers

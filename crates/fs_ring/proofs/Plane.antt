@@ -14,6 +14,23 @@ module _ {A : Type 0} {R : Operations A} (L : IsCommutativeRing R) where
   abbrev ◌-◌ : A → A → A
   x - y = sub R x y
 
+  -- ---- sums of vectors
+
+  pub add_vector_comm : (a b : Vector A) → add_vector R a b ≡ add_vector R b a
+  add_vector_comm a b = vector_identity L [] (a ∷ b ∷ []) (λ a b. add_vector E a b ≐ᵥ add_vector E b a) refl
+
+  pub add_vector_assoc : (a b c : Vector A) → add_vector R (add_vector R a b) c ≡ add_vector R a (add_vector R b c)
+  add_vector_assoc a b c = vector_identity L [] (a ∷ b ∷ c ∷ []) (λ a b c. add_vector E (add_vector E a b) c ≐ᵥ add_vector E a (add_vector E b c)) refl
+
+  pub add_vector_zero : (a : Vector A) → add_vector R a (zero_vector R) ≡ a
+  add_vector_zero a = vector_identity L [] (a ∷ []) (λ a. add_vector E a (zero_vector E) ≐ᵥ a) refl
+
+  pub add_vector_neg : (a : Vector A) → add_vector R a (neg_vector R a) ≡ zero_vector R
+  add_vector_neg a = vector_identity L [] (a ∷ []) (λ a. add_vector E a (neg_vector E a) ≐ᵥ zero_vector E) refl
+
+  pub neg_vector-neg : (a : Vector A) → neg_vector R (neg_vector R a) ≡ a
+  neg_vector-neg a = vector_identity L [] (a ∷ []) (λ a. neg_vector E (neg_vector E a) ≐ᵥ a) refl
+
   -- ---- the cross product
 
   pub cross_antisymm : (a b : Vector A) → cross R b a ≡ neg (cross R a b)

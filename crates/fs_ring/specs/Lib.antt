@@ -2,4 +2,5 @@ pub mod Operations
 pub mod CommutativeRing
 pub mod OrderedRing
 pub mod Vector
+pub mod Direction
 pub mod Integers

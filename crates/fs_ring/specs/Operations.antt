@@ -14,7 +14,7 @@ module _ {A : Type 0} (R : Operations A) where
   abbrev pub sub : A → A → A
   sub x y = R.add x (R.neg y)
 
-  -- x · x
+  -- x·x
   abbrev pub square : A → A
   square x = R.mul x x
 

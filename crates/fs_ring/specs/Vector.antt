@@ -1,21 +1,29 @@
 -- Vectors of the plane over any ring, and the numbers that are computed from them.
-use Rattle.std.specs.Prelude.{◌≡◌}
 use Rattle.fs_ring.specs.Operations.{Operations, sub}
 
+-- a vector by its two coordinates
 pub record Vector (A : Type 0) : Type 0 where
   pub x : A
   pub y : A
 
 module _ {A : Type 0} (R : Operations A) where
+  -- (0, 0)
   abbrev pub zero_vector : Vector A
   zero_vector = record { x = R.zero; y = R.zero }
 
+  -- (1, 0)
+  abbrev pub unit_vector : Vector A
+  unit_vector = record { x = R.one; y = R.zero }
+
+  -- a + b
   abbrev pub add_vector : Vector A → Vector A → Vector A
   add_vector a b = record { x = R.add a.x b.x; y = R.add a.y b.y }
 
+  -- a - b
   abbrev pub sub_vector : Vector A → Vector A → Vector A
   sub_vector a b = record { x = sub R a.x b.x; y = sub R a.y b.y }
 
+  -- the opposite vector
   abbrev pub neg_vector : Vector A → Vector A
   neg_vector a = record { x = R.neg a.x; y = R.neg a.y }
 
@@ -39,19 +47,7 @@ module _ {A : Type 0} (R : Operations A) where
   abbrev pub twice_area : Vector A → Vector A → Vector A → A
   twice_area a b c = cross (sub_vector b a) (sub_vector c a)
 
-  -- the circle value of an edge between the sides a, b of one triangle and c, g of the other
+  -- the circle value of an edge between the triangles that go on with the sides a, b and c, g:
+  -- at most 0 exactly where the fourth point isn't strictly inside the circle of the other three
   abbrev pub circle : Vector A → Vector A → Vector A → Vector A → A
   circle a b c g = R.add (R.mul (cross a b) (dot c g)) (R.mul (cross c g) (dot a b))
-
-  module _ (IsPositive : A → Type 0) where
-    -- how b stands to a: left or right of it, or along it either way
-    pub data Turn (a b : Vector A) : Type 0 where
-      left : IsPositive (cross a b) → Turn a b
-      right : IsPositive (cross b a) → Turn a b
-      same : cross a b ≡ R.zero → IsPositive (dot a b) → Turn a b
-      opposite : cross a b ≡ R.zero → IsPositive (R.neg (dot a b)) → Turn a b
-
-    -- a stands in the half plane that begins at w, itself included, and goes counterclockwise to -w, excluded
-    pub data InHalfPlane (w a : Vector A) : Type 0 where
-      inside : IsPositive (cross w a) → InHalfPlane w a
-      at_start : cross w a ≡ R.zero → IsPositive (dot w a) → InHalfPlane w a
