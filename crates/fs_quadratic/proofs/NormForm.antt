@@ -5,7 +5,6 @@ use Rattle.fs_ring.specs.OrderedRing.{IsOrderedRing, Sign, positive, null, negat
 use Rattle.fs_ring.proofs.RingLaws as ring
 use Rattle.fs_ring.proofs.Signs as signs
 use Rattle.fs_ring.proofs.Solver.{expressions as E, numeral, ◌⊕◌, ◌⊖◌, ◌⊗◌, ◌≐◌, ◌from◌, identity, derived}
-use Rattle.fs_ring.proofs.Solver as solver
 
 module _ {A : Type 0} (R : Operations A) (d : A) where
   -- (p + q·√d)·(p - q·√d)
@@ -37,7 +36,7 @@ module _ {A : Type 0} {R : Operations A} {IsPositive : A → Type 0} (L : IsOrde
       elim (signs.mul_positive_cases L (a - b) (a + b) (signs.positive_by L (a ∷ b ∷ []) (λ a b. (a ⊖ b) ⊗ (a ⊕ b) ≐ square E a ⊖ square E b) refl h)) [
         | inl c ↦ c.1
         | inr c ↦ absurd (signs.not_both_signs L (L.add_positive p p)
-            (signs.positive_by L (a ∷ b ∷ []) (λ a b. solver.negative (a ⊕ a) ≐ solver.negative (a ⊖ b) ⊕ solver.negative (a ⊕ b)) refl (L.add_positive c.0 c.1)))
+            (signs.positive_by L (a ∷ b ∷ []) (λ a b. E.neg (a ⊕ a) ≐ E.neg (a ⊖ b) ⊕ E.neg (a ⊕ b)) refl (L.add_positive c.0 c.1)))
       ]
 
   module _ (d : A) (d_positive : IsPositive d) where
@@ -49,28 +48,32 @@ module _ {A : Type 0} {R : Operations A} {IsPositive : A → Type 0} (L : IsOrde
 
     -- ---- the parts of a product, by the parts that lead
 
-    p_leads_p : (p q r s : A) → IsPositive (Form p q) → IsPositive p → IsPositive (Form r s) → IsPositive r → IsPositive (p * r + d * (q * s))
+    p_leads_p : (p q r s : A) → IsPositive (Form p q) → IsPositive p → IsPositive (Form r s) → IsPositive r
+        → IsPositive (p * r + d * (q * s))
     p_leads_p p q r s f hp g hr =
         add_positive_of_squares (L.mul_positive hp hr)
         (signs.positive_by L (d ∷ p ∷ q ∷ r ∷ s ∷ [])
         (λ d p q r s. square E (p ⊗ r) ⊖ square E (d ⊗ (q ⊗ s)) ≐ norm_form E d p q ⊗ square E r ⊕ (d ⊗ square E q) ⊗ norm_form E d r s) refl
         (signs.add_positive_non_negative L (L.mul_positive f (L.mul_positive hr hr)) (signs.mul_non_negative L (square_times q) (signs.non_negative_of_positive L g))))
 
-    q_leads_q : (p q r s : A) → IsPositive (neg (Form p q)) → IsPositive q → IsPositive (neg (Form r s)) → IsPositive s → IsPositive (d * (q * s) + p * r)
+    q_leads_q : (p q r s : A) → IsPositive (neg (Form p q)) → IsPositive q → IsPositive (neg (Form r s)) → IsPositive s
+        → IsPositive (d * (q * s) + p * r)
     q_leads_q p q r s f hq g hs =
         add_positive_of_squares (L.mul_positive d_positive (L.mul_positive hq hs))
         (signs.positive_by L (d ∷ p ∷ q ∷ r ∷ s ∷ [])
-        (λ d p q r s. square E (d ⊗ (q ⊗ s)) ⊖ square E (p ⊗ r) ≐ (d ⊗ square E q) ⊗ solver.negative (norm_form E d r s) ⊕ square E r ⊗ solver.negative (norm_form E d p q)) refl
+        (λ d p q r s. square E (d ⊗ (q ⊗ s)) ⊖ square E (p ⊗ r) ≐ (d ⊗ square E q) ⊗ E.neg (norm_form E d r s) ⊕ square E r ⊗ E.neg (norm_form E d p q)) refl
         (signs.add_positive_non_negative L (L.mul_positive (L.mul_positive d_positive (L.mul_positive hq hq)) g) (signs.mul_non_negative L (signs.square_non_negative L r) (signs.non_negative_of_positive L f))))
 
-    p_leads_q : (p q r s : A) → IsPositive (Form p q) → IsPositive p → IsPositive (neg (Form r s)) → IsPositive s → IsPositive (p * s + q * r)
+    p_leads_q : (p q r s : A) → IsPositive (Form p q) → IsPositive p → IsPositive (neg (Form r s)) → IsPositive s
+        → IsPositive (p * s + q * r)
     p_leads_q p q r s f hp g hs =
         add_positive_of_squares (L.mul_positive hp hs)
         (signs.positive_by L (d ∷ p ∷ q ∷ r ∷ s ∷ [])
-        (λ d p q r s. square E (p ⊗ s) ⊖ square E (q ⊗ r) ≐ norm_form E d p q ⊗ square E s ⊕ square E q ⊗ solver.negative (norm_form E d r s)) refl
+        (λ d p q r s. square E (p ⊗ s) ⊖ square E (q ⊗ r) ≐ norm_form E d p q ⊗ square E s ⊕ square E q ⊗ E.neg (norm_form E d r s)) refl
         (signs.add_positive_non_negative L (L.mul_positive f (L.mul_positive hs hs)) (signs.mul_non_negative L (signs.square_non_negative L q) (signs.non_negative_of_positive L g))))
 
-    pub above_mul : {p q r s : A} → IsAbove R d IsPositive p q → IsAbove R d IsPositive r s → IsAbove R d IsPositive (p * r + d * (q * s)) (p * s + q * r)
+    pub above_mul : {p q r s : A} → IsAbove R d IsPositive p q → IsAbove R d IsPositive r s
+        → IsAbove R d IsPositive (p * r + d * (q * s)) (p * s + q * r)
     above_mul {p} {q} {r} {s} (p_leads f h) (p_leads g k) =
         p_leads (signs.positive_of_eq L (norm_form-mul d p q r s) (L.mul_positive f g)) (p_leads_p p q r s f h g k)
     above_mul {p} {q} {r} {s} (p_leads f h) (q_leads g k) =
@@ -84,20 +87,22 @@ module _ {A : Type 0} {R : Operations A} {IsPositive : A → Type 0} (L : IsOrde
 
     -- ---- sums in which one part leads in both
 
-    p_leads_sum : (p q r s : A) → IsPositive (Form p q) → IsPositive p → IsPositive (Form r s) → IsPositive r → IsPositive (Form (p + r) (q + s))
+    p_leads_sum : (p q r s : A) → IsPositive (Form p q) → IsPositive p → IsPositive (Form r s) → IsPositive r
+        → IsPositive (Form (p + r) (q + s))
     p_leads_sum p q r s f hp g hr =
         let mixed : IsPositive (p * r + d * (q * neg s)) =
-        p_leads_p p q r (neg s) f hp (signs.positive_by L (d ∷ r ∷ s ∷ []) (λ d r s. norm_form E d r (solver.negative s) ≐ norm_form E d r s) refl g) hr in
+        p_leads_p p q r (neg s) f hp (signs.positive_by L (d ∷ r ∷ s ∷ []) (λ d r s. norm_form E d r (E.neg s) ≐ norm_form E d r s) refl g) hr in
         signs.positive_by L (d ∷ p ∷ q ∷ r ∷ s ∷ [])
-        (λ d p q r s. norm_form E d (p ⊕ r) (q ⊕ s) ≐ (norm_form E d p q ⊕ norm_form E d r s) ⊕ ((p ⊗ r ⊕ d ⊗ (q ⊗ solver.negative s)) ⊕ (p ⊗ r ⊕ d ⊗ (q ⊗ solver.negative s)))) refl
+        (λ d p q r s. norm_form E d (p ⊕ r) (q ⊕ s) ≐ (norm_form E d p q ⊕ norm_form E d r s) ⊕ ((p ⊗ r ⊕ d ⊗ (q ⊗ E.neg s)) ⊕ (p ⊗ r ⊕ d ⊗ (q ⊗ E.neg s)))) refl
         (L.add_positive (L.add_positive f g) (L.add_positive mixed mixed))
 
-    q_leads_sum : (p q r s : A) → IsPositive (neg (Form p q)) → IsPositive q → IsPositive (neg (Form r s)) → IsPositive s → IsPositive (neg (Form (p + r) (q + s)))
+    q_leads_sum : (p q r s : A) → IsPositive (neg (Form p q)) → IsPositive q → IsPositive (neg (Form r s)) → IsPositive s
+        → IsPositive (neg (Form (p + r) (q + s)))
     q_leads_sum p q r s f hq g hs =
         let mixed : IsPositive (d * (q * s) + p * neg r) =
-        q_leads_q p q (neg r) s f hq (signs.positive_by L (d ∷ r ∷ s ∷ []) (λ d r s. solver.negative (norm_form E d (solver.negative r) s) ≐ solver.negative (norm_form E d r s)) refl g) hs in
+        q_leads_q p q (neg r) s f hq (signs.positive_by L (d ∷ r ∷ s ∷ []) (λ d r s. E.neg (norm_form E d (E.neg r) s) ≐ E.neg (norm_form E d r s)) refl g) hs in
         signs.positive_by L (d ∷ p ∷ q ∷ r ∷ s ∷ [])
-        (λ d p q r s. solver.negative (norm_form E d (p ⊕ r) (q ⊕ s)) ≐ (solver.negative (norm_form E d p q) ⊕ solver.negative (norm_form E d r s)) ⊕ ((d ⊗ (q ⊗ s) ⊕ p ⊗ solver.negative r) ⊕ (d ⊗ (q ⊗ s) ⊕ p ⊗ solver.negative r))) refl
+        (λ d p q r s. E.neg (norm_form E d (p ⊕ r) (q ⊕ s)) ≐ (E.neg (norm_form E d p q) ⊕ E.neg (norm_form E d r s)) ⊕ ((d ⊗ (q ⊗ s) ⊕ p ⊗ E.neg r) ⊕ (d ⊗ (q ⊗ s) ⊕ p ⊗ E.neg r))) refl
         (L.add_positive (L.add_positive f g) (L.add_positive mixed mixed))
 
     pub not_above_zero : ¬ IsAbove R d IsPositive 𝟘 𝟘
@@ -106,12 +111,12 @@ module _ {A : Type 0} {R : Operations A} {IsPositive : A → Type 0} (L : IsOrde
 
     p-ne-zero : {p q : A} → IsPositive (Form p q) → p ≢ 𝟘
     p-ne-zero {p} {q} f e =
-        square_times q (signs.positive_of_eq L (derived L.ring (d ∷ p ∷ q ∷ []) (λ d p q. solver.negative (d ⊗ square E q) ≐ norm_form E d p q from (solver.negative p, p ≐ numeral 0) ∷ []) refl (e, tt)) f)
+        square_times q (signs.positive_of_eq L (derived L.ring (d ∷ p ∷ q ∷ []) (λ d p q. E.neg (d ⊗ square E q) ≐ norm_form E d p q from (E.neg p, p ≐ numeral 0) ∷ []) refl (e, tt)) f)
 
     q-ne-zero : {p q : A} → IsPositive (neg (Form p q)) → q ≢ 𝟘
     q-ne-zero {p} {q} f e =
         signs.square_non_negative L p
-        (signs.positive_of_eq L (derived L.ring (d ∷ p ∷ q ∷ []) (λ d p q. solver.negative (square E p) ≐ solver.negative (norm_form E d p q) from (solver.negative (d ⊗ q), q ≐ numeral 0) ∷ []) refl (e, tt)) f)
+        (signs.positive_of_eq L (derived L.ring (d ∷ p ∷ q ∷ []) (λ d p q. E.neg (square E p) ≐ E.neg (norm_form E d p q) from (E.neg (d ⊗ q), q ≐ numeral 0) ∷ []) refl (e, tt)) f)
 
     above_of_eq : {p q r s : A} → p ≡ r → q ≡ s → IsAbove R d IsPositive p q → IsAbove R d IsPositive r s
     above_of_eq {p} {q} {r} {s} e f h = subst (λ v. IsAbove R d IsPositive r v) f (subst (λ v. IsAbove R d IsPositive v q) e h)
@@ -132,9 +137,10 @@ module _ {A : Type 0} {R : Operations A} {IsPositive : A → Type 0} (L : IsOrde
       above_cases p q = go (L.trichotomy (Form p q)) (L.trichotomy p) (L.trichotomy q)
         where
           turned : Form (neg p) (neg q) ≡ Form p q
-          turned = identity L.ring (d ∷ p ∷ q ∷ []) (λ d p q. norm_form E d (solver.negative p) (solver.negative q) ≐ norm_form E d p q) refl
+          turned = identity L.ring (d ∷ p ∷ q ∷ []) (λ d p q. norm_form E d (E.neg p) (E.neg q) ≐ norm_form E d p q) refl
 
-          go : Sign R IsPositive (Form p q) → Sign R IsPositive p → Sign R IsPositive q → IsAbove R d IsPositive p q ⊎ (((p ≡ 𝟘) × (q ≡ 𝟘)) ⊎ IsAbove R d IsPositive (neg p) (neg q))
+          go : Sign R IsPositive (Form p q) → Sign R IsPositive p → Sign R IsPositive q
+              → IsAbove R d IsPositive p q ⊎ (((p ≡ 𝟘) × (q ≡ 𝟘)) ⊎ IsAbove R d IsPositive (neg p) (neg q))
           go (null e) s t = inr (inl (zero_of_norm_form-zero p q e))
           go (positive f) (positive h) t = inl (p_leads f h)
           go (positive f) (null e) t = absurd (p-ne-zero f e)
@@ -143,7 +149,8 @@ module _ {A : Type 0} {R : Operations A} {IsPositive : A → Type 0} (L : IsOrde
           go (negative f) s (null e) = absurd (q-ne-zero f e)
           go (negative f) s (negative h) = inr (inr (q_leads (signs.positive_of_eq L (ap neg turned) f) h))
 
-      pub above_of_non_negative : (p q : A) → IsNonNegative R IsPositive p → IsNonNegative R IsPositive q → ¬ ((p ≡ 𝟘) × (q ≡ 𝟘)) → IsAbove R d IsPositive p q
+      pub above_of_non_negative : (p q : A) → IsNonNegative R IsPositive p → IsNonNegative R IsPositive q → ¬ ((p ≡ 𝟘) × (q ≡ 𝟘))
+          → IsAbove R d IsPositive p q
       above_of_non_negative p q hp hq n =
           elim (L.trichotomy (Form p q)) [
             | positive f ↦ elim (signs.non_negative_cases L p hp) [ inl h ↦ p_leads f h | inr e ↦ absurd (p-ne-zero f e) ]
@@ -152,27 +159,29 @@ module _ {A : Type 0} {R : Operations A} {IsPositive : A → Type 0} (L : IsOrde
           ]
 
       -- a sum in which p leads in one pair and q in the other: if it weren't above zero, the pairs would have one form
-      add_mixed : (p q r s : A) → IsPositive (Form p q) → IsPositive p → IsPositive (neg (Form r s)) → IsPositive s → IsAbove R d IsPositive (p + r) (q + s)
+      add_mixed : (p q r s : A) → IsPositive (Form p q) → IsPositive p → IsPositive (neg (Form r s)) → IsPositive s
+          → IsAbove R d IsPositive (p + r) (q + s)
       add_mixed p q r s f hp g hs = go (above_cases (p + r) (q + s))
         where
-          go : IsAbove R d IsPositive (p + r) (q + s) ⊎ (((p + r ≡ 𝟘) × (q + s ≡ 𝟘)) ⊎ IsAbove R d IsPositive (neg (p + r)) (neg (q + s))) → IsAbove R d IsPositive (p + r) (q + s)
+          go : IsAbove R d IsPositive (p + r) (q + s) ⊎ (((p + r ≡ 𝟘) × (q + s ≡ 𝟘)) ⊎ IsAbove R d IsPositive (neg (p + r)) (neg (q + s)))
+              → IsAbove R d IsPositive (p + r) (q + s)
           go (inl h) = h
           go (inr (inl zeros)) =
               absurd (signs.not_both_signs L f
               (signs.positive_of_eq L
               (derived L.ring (d ∷ p ∷ q ∷ r ∷ s ∷ [])
-              (λ d p q r s. solver.negative (norm_form E d p q) ≐ solver.negative (norm_form E d r s) from (r ⊖ p, p ⊕ r ≐ numeral 0) ∷ (solver.negative (d ⊗ (s ⊖ q)), q ⊕ s ≐ numeral 0) ∷ []) refl (zeros.0, (zeros.1, tt)))
+              (λ d p q r s. E.neg (norm_form E d p q) ≐ E.neg (norm_form E d r s) from (r ⊖ p, p ⊕ r ≐ numeral 0) ∷ (E.neg (d ⊗ (s ⊖ q)), q ⊕ s ≐ numeral 0) ∷ []) refl (zeros.0, (zeros.1, tt)))
               g))
           go (inr (inr (p_leads f' h))) =
               absurd (signs.not_both_signs L
               (signs.positive_by L (d ∷ p ∷ q ∷ r ∷ s ∷ [])
-              (λ d p q r s. norm_form E d r s ≐ norm_form E d (solver.negative (p ⊕ r) ⊕ p) (solver.negative (q ⊕ s) ⊕ q)) refl
+              (λ d p q r s. norm_form E d r s ≐ norm_form E d (E.neg (p ⊕ r) ⊕ p) (E.neg (q ⊕ s) ⊕ q)) refl
               (p_leads_sum (neg (p + r)) (neg (q + s)) p q f' h f hp))
               g)
           go (inr (inr (q_leads f' h))) =
               absurd (signs.not_both_signs L f
               (signs.positive_by L (d ∷ p ∷ q ∷ r ∷ s ∷ [])
-              (λ d p q r s. solver.negative (norm_form E d p q) ≐ solver.negative (norm_form E d (solver.negative (p ⊕ r) ⊕ r) (solver.negative (q ⊕ s) ⊕ s))) refl
+              (λ d p q r s. E.neg (norm_form E d p q) ≐ E.neg (norm_form E d (E.neg (p ⊕ r) ⊕ r) (E.neg (q ⊕ s) ⊕ s))) refl
               (q_leads_sum (neg (p + r)) (neg (q + s)) r s f' h g hs)))
 
       pub above_add : {p q r s : A} → IsAbove R d IsPositive p q → IsAbove R d IsPositive r s → IsAbove R d IsPositive (p + r) (q + s)

@@ -9,7 +9,7 @@ use Rattle.fs_ring.specs.OrderedRing.{positive, null, negative}
 use Rattle.fs_ring.proofs.RingLaws as ring
 use Rattle.fs_ring.proofs.Order as order
 use Rattle.fs_ring.proofs.Integers.{integer_ring}
-use Rattle.fs_ring.proofs.Solver.{negative as minus, ◌⊗◌, ◌≐◌, identity}
+use Rattle.fs_ring.proofs.Solver.{expressions as E, ◌⊗◌, ◌≐◌, identity}
 use Rattle.fs_quadratic.specs.Radicand.{IsNoSquare}
 use Rattle.fs_quadratic.specs.Ring.{Quadratic, zero, neg, sub, IsPositive, both, by_p, by_q, IsLess, sign_by_parts, sign, compare}
 use Rattle.fs_quadratic.proofs.Laws.{quadratic_ring, quadratic_order}
@@ -18,12 +18,14 @@ use Rattle.fs_quadratic.proofs.Laws.{quadratic_ring, quadratic_order}
 abbrev Stands : Ordering → ℤ → ℤ → Type 0
 Stands r y z = MatchOrdering r (y <ℤ z) (y ≡ z) (z <ℤ y)
 
-sign_from : (d : ℕ) (x : Quadratic) (a b c : Ordering) → Stands a x.p (pos 0) → Stands b x.q (pos 0) → Stands c (x.p *ℤ x.p) (pos d *ℤ (x.q *ℤ x.q)) → sign d x ≡ sign_by_parts a b c
+sign_from : (d : ℕ) (x : Quadratic) (a b c : Ordering) → Stands a x.p (pos 0) → Stands b x.q (pos 0)
+    → Stands c (x.p *ℤ x.p) (pos d *ℤ (x.q *ℤ x.q)) → sign d x ≡ sign_by_parts a b c
 sign_from d x a b c ha hb hc =
     λ i. sign_by_parts (sym (int_cmp_is x.p (pos 0) a ha) i) (sym (int_cmp_is x.q (pos 0) b hb) i) (sym (int_cmp_is (x.p *ℤ x.p) (pos d *ℤ (x.q *ℤ x.q)) c hc) i)
 
 -- where the squares don't matter
-sign_without : (d : ℕ) (x : Quadratic) (a b : Ordering) → Stands a x.p (pos 0) → Stands b x.q (pos 0) → sign d x ≡ sign_by_parts a b (int_cmp (x.p *ℤ x.p) (pos d *ℤ (x.q *ℤ x.q)))
+sign_without : (d : ℕ) (x : Quadratic) (a b : Ordering) → Stands a x.p (pos 0) → Stands b x.q (pos 0)
+    → sign d x ≡ sign_by_parts a b (int_cmp (x.p *ℤ x.p) (pos d *ℤ (x.q *ℤ x.q)))
 sign_without d x a b ha hb = sign_from d x a b (int_cmp (x.p *ℤ x.p) (pos d *ℤ (x.q *ℤ x.q))) ha hb (int_ranks (x.p *ℤ x.p) (pos d *ℤ (x.q *ℤ x.q)))
 
 zero_between : (z : ℤ) → pos 0 ≤ℤ z → z ≤ℤ pos 0 → z ≡ pos 0
@@ -59,7 +61,8 @@ reverse-reverse Less = refl
 reverse-reverse Equal = refl
 reverse-reverse Greater = refl
 
-sign_by_parts-reverse : (a b c : Ordering) → sign_by_parts (ordering_reverse a) (ordering_reverse b) c ≡ ordering_reverse (sign_by_parts a b c)
+sign_by_parts-reverse : (a b c : Ordering)
+    → sign_by_parts (ordering_reverse a) (ordering_reverse b) c ≡ ordering_reverse (sign_by_parts a b c)
 sign_by_parts-reverse Equal b c = refl
 sign_by_parts-reverse Greater Less c = refl
 sign_by_parts-reverse Greater Equal c = refl
@@ -69,7 +72,7 @@ sign_by_parts-reverse Less Equal c = refl
 sign_by_parts-reverse Less Greater c = sym (reverse-reverse c)
 
 square-neg : (z : ℤ) → neg_ℤ z *ℤ neg_ℤ z ≡ z *ℤ z
-square-neg z = identity integer_ring (z ∷ []) (λ z. minus z ⊗ minus z ≐ z ⊗ z) refl
+square-neg z = identity integer_ring (z ∷ []) (λ z. E.neg z ⊗ E.neg z ≐ z ⊗ z) refl
 
 pub sign-neg : (d : ℕ) (x : Quadratic) → sign d (neg x) ≡ ordering_reverse (sign d x)
 sign-neg d x =
@@ -106,7 +109,8 @@ module _ {d : ℕ} (no_square : IsNoSquare d) where
   pub compare_ranks : (x y : Quadratic) → MatchOrdering (compare d x y) (IsLess d x y) (x ≡ y) (IsLess d y x)
   compare_ranks x y = go (sign d (sub x y)) (sign_ranks (sub x y))
     where
-      go : (r : Ordering) → MatchOrdering r (IsPositive d (neg (sub x y))) (sub x y ≡ zero) (IsPositive d (sub x y)) → MatchOrdering r (IsLess d x y) (x ≡ y) (IsLess d y x)
+      go : (r : Ordering) → MatchOrdering r (IsPositive d (neg (sub x y))) (sub x y ≡ zero) (IsPositive d (sub x y))
+          → MatchOrdering r (IsLess d x y) (x ≡ y) (IsLess d y x)
       go Less h = subst (IsPositive d) (ring.neg-sub (quadratic_ring d) x y) h
       go Equal e = ring.eq_of_sub-zero (quadratic_ring d) x y e
       go Greater h = h

@@ -9,8 +9,7 @@ use Rattle.fs_ring.specs.Integers.{integers, IsPositiveInteger}
 use Rattle.fs_ring.proofs.Integers.{integer_order, non_negative-is}
 use Rattle.fs_ring.proofs.Signs as signs
 use Rattle.fs_ring.proofs.Order as order
-use Rattle.fs_ring.proofs.Solver.{expressions as E, numeral, ◌⊕◌, ◌⊖◌, ◌⊗◌, ◌≐◌, ◌from◌, identity, derived}
-use Rattle.fs_ring.proofs.Solver as solver
+use Rattle.fs_ring.proofs.Solver.{expressions as E, numeral, ◌⊕◌, ◌⊖◌, ◌⊗◌, ◌≐◌, ◌from◌, derived}
 use Rattle.fs_quadratic.specs.Radicand.{IsRadicand, IsNoSquare}
 
 pub radicand_no_square : {d : ℕ} → IsRadicand d → IsNoSquare d
@@ -41,7 +40,8 @@ module _ {A : Type 0} {R : Operations A} {IsPositive : A → Type 0} (L : IsOrde
   x ⊟ y = sub R x y
 
   -- from m² = d·n², with k² < d < (k + 1)², to a smaller pair
-  descent : (d k m n : A) → IsNonNegative R IsPositive m → IsNonNegative R IsPositive k → IsPositive n → IsPositive (d ⊟ square R k) → IsPositive (square R (k ⊞ 𝟙) ⊟ d) → square R m ≡ d ⊠ square R n
+  descent : (d k m n : A) → IsNonNegative R IsPositive m → IsNonNegative R IsPositive k → IsPositive n → IsPositive (d ⊟ square R k)
+      → IsPositive (square R (k ⊞ 𝟙) ⊟ d) → square R m ≡ d ⊠ square R n
       → IsPositive (m ⊟ k ⊠ n) × IsPositive (n ⊟ (m ⊟ k ⊠ n)) × (square R (d ⊠ n ⊟ k ⊠ m) ≡ d ⊠ square R (m ⊟ k ⊠ n))
   descent d k m n hm hk hn low high e = (
     order.less_of_square_less L (k ⊠ n) m hm
@@ -51,9 +51,9 @@ module _ {A : Type 0} {R : Operations A} {IsPositive : A → Type 0} (L : IsOrde
     signs.positive_by L (d ∷ k ∷ m ∷ n ∷ []) (λ d k m n. n ⊖ (m ⊖ k ⊗ n) ≐ (k ⊕ numeral 1) ⊗ n ⊖ m) refl
         (order.less_of_square_less L m ((k ⊞ 𝟙) ⊠ n) (signs.mul_non_negative L (signs.add_non_negative L hk (signs.non_negative_of_positive L L.one_positive)) (signs.non_negative_of_positive L hn))
         (signs.positive_of_eq L
-        (derived L.ring (d ∷ k ∷ m ∷ n ∷ []) (λ d k m n. square E ((k ⊕ numeral 1) ⊗ n) ⊖ square E m ≐ (square E (k ⊕ numeral 1) ⊖ d) ⊗ square E n from (solver.negative (numeral 1), square E m ≐ d ⊗ square E n) ∷ []) refl (e, tt))
+        (derived L.ring (d ∷ k ∷ m ∷ n ∷ []) (λ d k m n. square E ((k ⊕ numeral 1) ⊗ n) ⊖ square E m ≐ (square E (k ⊕ numeral 1) ⊖ d) ⊗ square E n from (E.neg (numeral 1), square E m ≐ d ⊗ square E n) ∷ []) refl (e, tt))
         (L.mul_positive high (L.mul_positive hn hn)))),
-    derived L.ring (d ∷ k ∷ m ∷ n ∷ []) (λ d k m n. square E (d ⊗ n ⊖ k ⊗ m) ≐ d ⊗ square E (m ⊖ k ⊗ n) from (solver.negative (d ⊖ square E k), square E m ≐ d ⊗ square E n) ∷ []) refl (e, tt),
+    derived L.ring (d ∷ k ∷ m ∷ n ∷ []) (λ d k m n. square E (d ⊗ n ⊖ k ⊗ m) ≐ d ⊗ square E (m ⊖ k ⊗ n) from (E.neg (d ⊖ square E k), square E m ≐ d ⊗ square E n) ∷ []) refl (e, tt),
   )
 
 square-nat_abs : (z : ℤ) → pos (nat_abs z) *ℤ pos (nat_abs z) ≡ z *ℤ z
@@ -77,7 +77,8 @@ strictly_below a b h n = omega arith
 abbrev Smaller : ℕ → ℕ → Type 0
 Smaller d n = (t : ℕ) × (0 < t) × (t < n) × ((u : ℤ) × (u *ℤ u ≡ pos d *ℤ (pos t *ℤ pos t)))
 
-smaller_of : (d n : ℕ) (t u : ℤ) → IsPositiveInteger t → IsPositiveInteger (sub integers (pos n) t) → u *ℤ u ≡ pos d *ℤ (t *ℤ t) → Smaller d n
+smaller_of : (d n : ℕ) (t u : ℤ) → IsPositiveInteger t → IsPositiveInteger (sub integers (pos n) t) → u *ℤ u ≡ pos d *ℤ (t *ℤ t)
+    → Smaller d n
 smaller_of d n (pos t) u h k e = (t, omega (arith, ints), omega (arith, ints), (u, e))
 smaller_of d n (negsuc t) u h k e = absurd h.lt
 

@@ -5,8 +5,7 @@ use Rattle.fs_ring.specs.OrderedRing.{IsOrderedRing, Sign, positive, null, negat
 use Rattle.fs_ring.proofs.RingLaws as ring
 use Rattle.fs_ring.proofs.Signs as signs
 use Rattle.fs_ring.proofs.Order as order
-use Rattle.fs_ring.proofs.Solver.{◌⊕◌, ◌⊖◌, ◌⊗◌, ◌≐◌, ◌from◌, identity, derived, numeral}
-use Rattle.fs_ring.proofs.Solver as solver
+use Rattle.fs_ring.proofs.Solver.{expressions as E, ◌⊕◌, ◌⊖◌, ◌⊗◌, ◌≐◌, ◌from◌, derived, numeral}
 
 module _ {A : Type 0} {R : Operations A} {IsPositive : A → Type 0} (L : IsOrderedRing R IsPositive) where
   open R use {add as ◌+◌, mul as ◌*◌, neg, zero as 𝟘}
@@ -46,13 +45,13 @@ module _ {A : Type 0} {R : Operations A} {IsPositive : A → Type 0} (L : IsOrde
       go (inl p) (inl q) = inl cc
       go (inl p) (inr q) = inr (cc (ring.mul-neg L.ring x y))
       go (inr p) (inl q) = inr (cc (ring.neg-mul L.ring x y))
-      go (inr p) (inr q) = inl (derived L.ring (x ∷ y ∷ a ∷ b ∷ []) (λ x y a b. a ⊗ b ≐ x ⊗ y from (b, a ≐ solver.negative x) ∷ (solver.negative x, b ≐ solver.negative y) ∷ []) refl (p, (q, tt)))
+      go (inr p) (inr q) = inl (derived L.ring (x ∷ y ∷ a ∷ b ∷ []) (λ x y a b. a ⊗ b ≐ x ⊗ y from (b, a ≐ E.neg x) ∷ (E.neg x, b ≐ E.neg y) ∷ []) refl (p, (q, tt)))
 
   pub square_absolute : {x a : A} → IsAbs x a → square R a ≡ square R x
   square_absolute {x} {a} h =
       elim h.either_sign [
         | inl e ↦ ap (square R) e
-        | inr e ↦ derived L.ring (x ∷ a ∷ []) (λ x a. a ⊗ a ≐ x ⊗ x from (a ⊖ x, a ≐ solver.negative x) ∷ []) refl (e, tt)
+        | inr e ↦ derived L.ring (x ∷ a ∷ []) (λ x a. a ⊗ a ≐ x ⊗ x from (a ⊖ x, a ≐ E.neg x) ∷ []) refl (e, tt)
       ]
 
   -- an element has one absolute value
@@ -68,7 +67,7 @@ module _ {A : Type 0} {R : Operations A} {IsPositive : A → Type 0} (L : IsOrde
       elim h.either_sign [
         | inl e ↦ order.at_most_of_eq L x a (sym e)
         | inr e ↦ λ l. signs.add_non_negative L h.non_negative h.non_negative
-            (signs.positive_of_eq L (derived L.ring (x ∷ a ∷ []) (λ x a. solver.negative (a ⊕ a) ≐ x ⊖ a from (solver.negative (numeral 1), a ≐ solver.negative x) ∷ []) refl (e, tt)) l)
+            (signs.positive_of_eq L (derived L.ring (x ∷ a ∷ []) (λ x a. E.neg (a ⊕ a) ≐ x ⊖ a from (E.neg (numeral 1), a ≐ E.neg x) ∷ []) refl (e, tt)) l)
       ]
 
   pub neg_at_most_absolute : {x a : A} → IsAbs x a → neg x ≤ a

@@ -7,7 +7,6 @@ use Rattle.fs_ring.specs.Direction.{IsAlong, Turn, left, right, along, opposite}
 use Rattle.fs_ring.proofs.Signs as signs
 use Rattle.fs_ring.proofs.Plane as plane
 use Rattle.fs_ring.proofs.Solver.{Equation, is_identity, evaluate, expressions as E, numeral, ◌⊕◌, ◌⊖◌, ◌⊗◌, ◌≐◌, ◌from◌}
-use Rattle.fs_ring.proofs.Solver as solver
 use Rattle.fs_ring.proofs.PlaneSolver.{OverPlane, at_plane, elements, plane_derived, by_plane_identity, vector_eq}
 
 module _ {A : Type 0} {R : Operations A} {IsPositive : A → Type 0} (L : IsOrderedRing R IsPositive) where
@@ -16,7 +15,9 @@ module _ {A : Type 0} {R : Operations A} {IsPositive : A → Type 0} (L : IsOrde
   infixl 60 ◌+◌
   infixl 70 ◌*◌
   -- what equals a positive element by an identity over vectors is positive
-  pub positive_by_plane : (xs : List A) (vs : List (Vector A)) (f : OverPlane xs vs Equation) → is_identity (at_plane 0 xs vs f) ≡ true → IsPositive (evaluate R (elements xs vs) (at_plane 0 xs vs f).right) → IsPositive (evaluate R (elements xs vs) (at_plane 0 xs vs f).left)
+  pub positive_by_plane : (xs : List A) (vs : List (Vector A)) (f : OverPlane xs vs Equation) → is_identity (at_plane 0 xs vs f) ≡ true
+      → IsPositive (evaluate R (elements xs vs) (at_plane 0 xs vs f).right)
+      → IsPositive (evaluate R (elements xs vs) (at_plane 0 xs vs f).left)
   positive_by_plane = by_plane_identity L.ring IsPositive
 
   -- ---- lengths
@@ -42,7 +43,7 @@ module _ {A : Type 0} {R : Operations A} {IsPositive : A → Type 0} (L : IsOrde
   pub square-dot_at_most : (a b : Vector A) → IsAtMost R IsPositive (square R (dot R a b)) (norm R a * norm R b)
   square-dot_at_most a b h =
       signs.square_non_negative L (cross R a b)
-      (positive_by_plane [] (a ∷ b ∷ []) (λ a b. solver.negative (square E (cross E a b)) ≐ square E (dot E a b) ⊖ norm E a ⊗ norm E b) refl h)
+      (positive_by_plane [] (a ∷ b ∷ []) (λ a b. E.neg (square E (cross E a b)) ≐ square E (dot E a b) ⊖ norm E a ⊗ norm E b) refl h)
 
   pub cross_positive-ne-zero_left : {a b : Vector A} → IsPositive (cross R a b) → a ≢ zero_vector R
   cross_positive-ne-zero_left {a} {b} p e = signs.positive-ne-zero L p (ap (λ v. cross R v b) e ∙ plane.cross-zero_left L.ring b)
@@ -58,10 +59,10 @@ module _ {A : Type 0} {R : Operations A} {IsPositive : A → Type 0} (L : IsOrde
 
   -- the cross product the other way round
   pub cross_negative : (a b : Vector A) → IsPositive (cross R b a) → IsPositive (neg (cross R a b))
-  cross_negative a b = positive_by_plane [] (a ∷ b ∷ []) (λ a b. solver.negative (cross E a b) ≐ cross E b a) refl
+  cross_negative a b = positive_by_plane [] (a ∷ b ∷ []) (λ a b. E.neg (cross E a b) ≐ cross E b a) refl
 
   pub cross_positive : (a b : Vector A) → IsPositive (neg (cross R a b)) → IsPositive (cross R b a)
-  cross_positive a b = positive_by_plane [] (a ∷ b ∷ []) (λ a b. cross E b a ≐ solver.negative (cross E a b)) refl
+  cross_positive a b = positive_by_plane [] (a ∷ b ∷ []) (λ a b. cross E b a ≐ E.neg (cross E a b)) refl
 
   -- ---- parallel vectors
 
@@ -77,12 +78,12 @@ module _ {A : Type 0} {R : Operations A} {IsPositive : A → Type 0} (L : IsOrde
   pub scale_parallel : (a b : Vector A) → cross R a b ≡ 𝟘 → scale R (norm R a) b ≡ scale R (dot R a b) a
   scale_parallel a b h =
       vector_eq
-      (plane_derived L.ring [] (a ∷ b ∷ []) (λ a b. norm E a ⊗ b.x ≐ dot E a b ⊗ a.x from (solver.negative a.y, cross E a b ≐ numeral 0) ∷ []) refl (h, tt))
+      (plane_derived L.ring [] (a ∷ b ∷ []) (λ a b. norm E a ⊗ b.x ≐ dot E a b ⊗ a.x from (E.neg a.y, cross E a b ≐ numeral 0) ∷ []) refl (h, tt))
       (plane_derived L.ring [] (a ∷ b ∷ []) (λ a b. norm E a ⊗ b.y ≐ dot E a b ⊗ a.y from (a.x, cross E a b ≐ numeral 0) ∷ []) refl (h, tt))
 
   pub parallel_comm : (a b : Vector A) → cross R a b ≡ 𝟘 → cross R b a ≡ 𝟘
   parallel_comm a b h =
-      plane_derived L.ring [] (a ∷ b ∷ []) (λ a b. cross E b a ≐ numeral 0 from (solver.negative (numeral 1), cross E a b ≐ numeral 0) ∷ []) refl (h, tt)
+      plane_derived L.ring [] (a ∷ b ∷ []) (λ a b. cross E b a ≐ numeral 0 from (E.neg (numeral 1), cross E a b ≐ numeral 0) ∷ []) refl (h, tt)
 
   pub parallel_trans : (a b c : Vector A) → b ≢ zero_vector R → cross R a b ≡ 𝟘 → cross R b c ≡ 𝟘 → cross R a c ≡ 𝟘
   parallel_trans a b c n h k =
@@ -104,7 +105,7 @@ module _ {A : Type 0} {R : Operations A} {IsPositive : A → Type 0} (L : IsOrde
       signs.positive_of_mul_left L (norm_positive a (cross_positive-ne-zero_left p))
       (signs.positive_of_eq L
       (plane_derived L.ring [] (a ∷ b ∷ c ∷ [])
-      (λ a b c. norm E a ⊗ cross E b c ≐ dot E a b ⊗ cross E a c from (solver.negative (dot E a c), cross E a b ≐ numeral 0) ∷ []) refl (h.parallel, tt))
+      (λ a b c. norm E a ⊗ cross E b c ≐ dot E a b ⊗ cross E a c from (E.neg (dot E a c), cross E a b ≐ numeral 0) ∷ []) refl (h.parallel, tt))
       (L.mul_positive h.same_way p))
 
   -- and to their right
@@ -144,35 +145,41 @@ module _ {A : Type 0} {R : Operations A} {IsPositive : A → Type 0} (L : IsOrde
       go (null e) (null f) = absurd (elim (zero_of_cross_dot-zero a b e f) [ inl z ↦ m z | inr z ↦ n z ])
 
   -- 'left of' is transitive on one side of a line: w runs along the line, and b stands strictly to the left of w
-  pub cross_trans : (w a b c : Vector A) → IsNonNegative R IsPositive (cross R w a) → IsPositive (cross R w b) → IsPositive (cross R w c) → IsPositive (cross R a b) → IsPositive (cross R b c) → IsPositive (cross R a c)
+  pub cross_trans : (w a b c : Vector A) → IsNonNegative R IsPositive (cross R w a) → IsPositive (cross R w b) → IsPositive (cross R w c)
+      → IsPositive (cross R a b) → IsPositive (cross R b c) → IsPositive (cross R a c)
   cross_trans w a b c wa wb wc ab bc =
       signs.positive_of_mul_left L wb
       (signs.positive_of_eq L (plane.cross-cross_middle L.ring w a b c)
       (signs.add_non_negative_positive L (signs.mul_non_negative L wa (signs.non_negative_of_positive L bc)) (L.mul_positive wc ab)))
 
   -- so is 'left of or along'
-  pub cross_non_negative_trans : (w a b c : Vector A) → IsNonNegative R IsPositive (cross R w a) → IsPositive (cross R w b) → IsNonNegative R IsPositive (cross R w c) → IsNonNegative R IsPositive (cross R a b) → IsNonNegative R IsPositive (cross R b c) → IsNonNegative R IsPositive (cross R a c)
+  pub cross_non_negative_trans : (w a b c : Vector A) → IsNonNegative R IsPositive (cross R w a) → IsPositive (cross R w b)
+      → IsNonNegative R IsPositive (cross R w c) → IsNonNegative R IsPositive (cross R a b) → IsNonNegative R IsPositive (cross R b c)
+      → IsNonNegative R IsPositive (cross R a c)
   cross_non_negative_trans w a b c wa wb wc ab bc n =
       signs.add_non_negative L (signs.mul_non_negative L wa bc) (signs.mul_non_negative L wc ab)
       (positive_by_plane [] (w ∷ a ∷ b ∷ c ∷ [])
-      (λ w a b c. solver.negative (cross E w a ⊗ cross E b c ⊕ cross E w c ⊗ cross E a b) ≐ cross E w b ⊗ solver.negative (cross E a c)) refl (L.mul_positive wb n))
+      (λ w a b c. E.neg (cross E w a ⊗ cross E b c ⊕ cross E w c ⊗ cross E a b) ≐ cross E w b ⊗ E.neg (cross E a c)) refl (L.mul_positive wb n))
 
   -- ---- between two directions, less than half a turn apart
 
   -- what has both to its left has the vector between them to its left
-  pub between_cross : (w a b c : Vector A) → IsPositive (cross R a b) → IsPositive (cross R b c) → IsPositive (cross R a c) → IsPositive (cross R w a) → IsPositive (cross R w c) → IsPositive (cross R w b)
+  pub between_cross : (w a b c : Vector A) → IsPositive (cross R a b) → IsPositive (cross R b c) → IsPositive (cross R a c)
+      → IsPositive (cross R w a) → IsPositive (cross R w c) → IsPositive (cross R w b)
   between_cross w a b c ab bc ac wa wc =
       signs.positive_of_mul_right L ac
       (signs.positive_of_eq L (plane.cross-cross_middle L.ring w a b c) (L.add_positive (L.mul_positive wa bc) (L.mul_positive wc ab)))
 
   -- what makes an acute angle with both makes one with the vector between them
-  pub between_dot : (w a b c : Vector A) → IsPositive (cross R a b) → IsPositive (cross R b c) → IsPositive (cross R a c) → IsPositive (dot R w a) → IsPositive (dot R w c) → IsPositive (dot R w b)
+  pub between_dot : (w a b c : Vector A) → IsPositive (cross R a b) → IsPositive (cross R b c) → IsPositive (cross R a c)
+      → IsPositive (dot R w a) → IsPositive (dot R w c) → IsPositive (dot R w b)
   between_dot w a b c ab bc ac wa wc =
       signs.positive_of_mul_right L ac
       (signs.positive_of_eq L (plane.dot-cross_middle L.ring w a b c) (L.add_positive (L.mul_positive wa bc) (L.mul_positive wc ab)))
 
   -- a positive combination of two vectors is between them
-  pub between_of_combination : (s t : A) (a c : Vector A) → IsPositive s → IsPositive t → IsPositive (cross R a c) → IsPositive (cross R a (add_vector R (scale R s a) (scale R t c))) × IsPositive (cross R (add_vector R (scale R s a) (scale R t c)) c)
+  pub between_of_combination : (s t : A) (a c : Vector A) → IsPositive s → IsPositive t → IsPositive (cross R a c)
+      → IsPositive (cross R a (add_vector R (scale R s a) (scale R t c))) × IsPositive (cross R (add_vector R (scale R s a) (scale R t c)) c)
   between_of_combination s t a c p q h = (
     positive_by_plane (s ∷ t ∷ []) (a ∷ c ∷ []) (λ s t a c. cross E a (add_vector E (scale E s a) (scale E t c)) ≐ t ⊗ cross E a c) refl (L.mul_positive q h),
     positive_by_plane (s ∷ t ∷ []) (a ∷ c ∷ []) (λ s t a c. cross E (add_vector E (scale E s a) (scale E t c)) c ≐ s ⊗ cross E a c) refl (L.mul_positive p h),
@@ -185,5 +192,6 @@ module _ {A : Type 0} {R : Operations A} {IsPositive : A → Type 0} (L : IsOrde
   cross-add_self_left a b = positive_by_plane [] (a ∷ b ∷ []) (λ a b. cross E (add_vector E a b) b ≐ cross E a b) refl
 
   -- what is between a and b is right of c too, where b is between a and c
-  pub between_trans : (a e b c : Vector A) → IsPositive (cross R a e) → IsPositive (cross R e b) → IsPositive (cross R a b) → IsPositive (cross R b c) → IsPositive (cross R a c) → IsPositive (cross R e c)
+  pub between_trans : (a e b c : Vector A) → IsPositive (cross R a e) → IsPositive (cross R e b) → IsPositive (cross R a b)
+      → IsPositive (cross R b c) → IsPositive (cross R a c) → IsPositive (cross R e c)
   between_trans a e b c ae eb ab bc ac = cross_trans a e b c (signs.non_negative_of_positive L ae) ab ac eb bc

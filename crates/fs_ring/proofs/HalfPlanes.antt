@@ -8,7 +8,7 @@ use Rattle.fs_ring.proofs.RingLaws as ring
 use Rattle.fs_ring.proofs.Signs as signs
 use Rattle.fs_ring.proofs.Plane as plane
 use Rattle.fs_ring.proofs.Directions as directions
-use Rattle.fs_ring.proofs.Solver.{expressions as E, numeral, negative as minus, ◌⊗◌, ◌≐◌, ◌from◌}
+use Rattle.fs_ring.proofs.Solver.{expressions as E, numeral, ◌⊗◌, ◌≐◌, ◌from◌}
 use Rattle.fs_ring.proofs.PlaneSolver.{plane_derived}
 
 module _ {A : Type 0} {R : Operations A} {IsPositive : A → Type 0} (L : IsOrderedRing R IsPositive) where
@@ -43,7 +43,8 @@ module _ {A : Type 0} {R : Operations A} {IsPositive : A → Type 0} (L : IsOrde
       absurd (half_plane_non_negative ha (directions.cross_negative L w a (directions.along_cross_right L a (directions.along_comm L h) ab)))
 
   -- 'left of' is transitive in a half plane
-  pub half_plane_trans : {w a b c : Vector A} → HalfPlane w a → HalfPlane w b → HalfPlane w c → IsPositive (cross R a b) → IsPositive (cross R b c) → IsPositive (cross R a c)
+  pub half_plane_trans : {w a b c : Vector A} → HalfPlane w a → HalfPlane w b → HalfPlane w c → IsPositive (cross R a b)
+      → IsPositive (cross R b c) → IsPositive (cross R a c)
   half_plane_trans {w} {a} {b} {c} ha hb hc ab bc =
       directions.cross_trans L w a b c (half_plane_non_negative ha) (half_plane_left ha hb ab) (half_plane_left hb hc bc) ab bc
 
@@ -54,7 +55,7 @@ module _ {A : Type 0} {R : Operations A} {IsPositive : A → Type 0} (L : IsOrde
       (signs.negative_of_mul_left L (directions.norm_positive L a (directions.cross_positive-ne-zero_right L p))
       (signs.positive_of_eq L
       (plane_derived L.ring [] (w ∷ a ∷ b ∷ [])
-      (λ w a b. minus (norm E a ⊗ cross E w b) ≐ cross E w a ⊗ minus (dot E a b) from (minus (dot E w a), cross E a b ≐ numeral 0) ∷ []) refl (e, tt))
+      (λ w a b. E.neg (norm E a ⊗ cross E w b) ≐ cross E w a ⊗ E.neg (dot E a b) from (E.neg (dot E w a), cross E a b ≐ numeral 0) ∷ []) refl (e, tt))
       (L.mul_positive p n)))
   half_plane_not_opposite {w} {a} {b} (at_start h) (inside q) e n =
       signs.positive-ne-zero L (L.mul_positive h.same_way q)
@@ -64,11 +65,12 @@ module _ {A : Type 0} {R : Operations A} {IsPositive : A → Type 0} (L : IsOrde
       signs.not_both_signs L (L.mul_positive h.same_way k.same_way)
       (signs.positive_of_eq L
       (plane_derived L.ring [] (w ∷ a ∷ b ∷ [])
-      (λ w a b. minus (dot E w a ⊗ dot E w b) ≐ norm E w ⊗ minus (dot E a b) from (cross E w b, cross E w a ≐ numeral 0) ∷ []) refl (h.parallel, tt))
+      (λ w a b. E.neg (dot E w a ⊗ dot E w b) ≐ norm E w ⊗ E.neg (dot E a b) from (cross E w b, cross E w a ≐ numeral 0) ∷ []) refl (h.parallel, tt))
       (L.mul_positive (directions.norm_positive L w (directions.dot_positive-ne-zero_left L h.same_way)) n))
 
   -- of two vectors of a half plane one is left of the other, or they have one direction
-  pub half_plane_turn : {w a b : Vector A} → HalfPlane w a → HalfPlane w b → IsPositive (cross R a b) ⊎ (IsPositive (cross R b a) ⊎ Along a b)
+  pub half_plane_turn : {w a b : Vector A} → HalfPlane w a → HalfPlane w b
+      → IsPositive (cross R a b) ⊎ (IsPositive (cross R b a) ⊎ Along a b)
   half_plane_turn {w} {a} {b} ha hb =
       elim (directions.turn L a b (half_plane-ne-zero ha) (half_plane-ne-zero hb))
       [ left p ↦ inl p | right p ↦ inr (inl p) | along h ↦ inr (inr h) | opposite e n ↦ absurd (half_plane_not_opposite ha hb e n) ]
@@ -159,7 +161,8 @@ module _ {A : Type 0} {R : Operations A} {IsPositive : A → Type 0} (L : IsOrde
   pub before_cases : (a b : Vector A) → a ≢ zero_vector R → b ≢ zero_vector R → Before a b ⊎ (Before b a ⊎ Along a b)
   before_cases a b m n = go (half_plane_cases (unit_vector R) a unit-ne-zero m) (half_plane_cases (unit_vector R) b unit-ne-zero n)
     where
-      go : IsUpper R IsPositive a ⊎ IsLower R IsPositive a → IsUpper R IsPositive b ⊎ IsLower R IsPositive b → Before a b ⊎ (Before b a ⊎ Along a b)
+      go : IsUpper R IsPositive a ⊎ IsLower R IsPositive a → IsUpper R IsPositive b ⊎ IsLower R IsPositive b
+          → Before a b ⊎ (Before b a ⊎ Along a b)
       go (inl h) (inl k) = elim (half_plane_turn h k) [ inl p ↦ inl (upper h k p) | inr s ↦ elim s [ inl p ↦ inr (inl (upper k h p)) | inr z ↦ inr (inr z) ] ]
       go (inl h) (inr k) = inl (across h k)
       go (inr h) (inl k) = inr (inl (across k h))

@@ -7,7 +7,7 @@ use Rattle.fs_ring.proofs.RingLaws as ring
 use Rattle.fs_ring.proofs.Signs as signs
 use Rattle.fs_ring.proofs.Plane as plane
 use Rattle.fs_ring.proofs.Directions as directions
-use Rattle.fs_ring.proofs.Solver.{expressions as E, numeral, negative as minus, ◌⊗◌, ◌≐◌, ◌from◌}
+use Rattle.fs_ring.proofs.Solver.{expressions as E, numeral, ◌⊗◌, ◌≐◌, ◌from◌}
 use Rattle.fs_ring.proofs.PlaneSolver.{plane_identity, plane_derived, vector_eq}
 
 module _ {A : Type 0} (R : Operations A) where
@@ -42,17 +42,20 @@ module _ {A : Type 0} {R : Operations A} {IsPositive : A → Type 0} (L : IsOrde
 
   infixl 60 ◌+◌
   infixl 70 ◌*◌
-  cross-mul-circle : (a b c : Vector A) → cross R a b * circle R a b c (closing R a b c) ≡ neg (form R (cross R a b) (cross R c (closing R a b c)) (neg (cross R b c)) a b)
+  cross-mul-circle : (a b c : Vector A)
+      → cross R a b * circle R a b c (closing R a b c) ≡ neg (form R (cross R a b) (cross R c (closing R a b c)) (neg (cross R b c)) a b)
   cross-mul-circle a b c =
       plane_identity L.ring [] (a ∷ b ∷ c ∷ [])
-      (λ a b c. cross E a b ⊗ circle E a b c (closing E a b c) ≐ minus (form E (cross E a b) (cross E c (closing E a b c)) (minus (cross E b c)) a b)) refl
+      (λ a b c. cross E a b ⊗ circle E a b c (closing E a b c) ≐ E.neg (form E (cross E a b) (cross E c (closing E a b c)) (E.neg (cross E b c)) a b)) refl
 
-  weight-mul-form : (s t r : A) (a b : Vector A) → weight R s t r * form R s t r a b ≡ norm R (completed R s t r a b) + excess R s t r * norm R a
+  weight-mul-form : (s t r : A) (a b : Vector A)
+      → weight R s t r * form R s t r a b ≡ norm R (completed R s t r a b) + excess R s t r * norm R a
   weight-mul-form s t r a b =
       plane_identity L.ring (s ∷ t ∷ r ∷ []) (a ∷ b ∷ [])
       (λ s t r a b. weight E s t r ⊗ form E s t r a b ≐ E.add (norm E (completed E s t r a b)) (excess E s t r ⊗ norm E a)) refl
 
-  form_non_negative : (s t r : A) (a b : Vector A) → IsPositive s → IsPositive t → IsNonNegative R IsPositive r → IsNonNegative R IsPositive (form R s t r a b)
+  form_non_negative : (s t r : A) (a b : Vector A) → IsPositive s → IsPositive t → IsNonNegative R IsPositive r
+      → IsNonNegative R IsPositive (form R s t r a b)
   form_non_negative s t r a b hs ht hr n =
       let total_positive : IsPositive (total R s t r) = signs.add_positive_non_negative L (L.add_positive hs ht) hr in
       let weight_positive : IsPositive (weight R s t r) = L.mul_positive total_positive (signs.add_non_negative_positive L hr ht) in
@@ -62,7 +65,8 @@ module _ {A : Type 0} {R : Operations A} {IsPositive : A → Type 0} (L : IsOrde
       (signs.positive_of_eq L (ap neg (sym (weight-mul-form s t r a b))) (signs.mul_positive_negative L weight_positive n))
 
   -- b turns left into c where the circle value is positive
-  hinge_left : (a b c : Vector A) → IsPositive (cross R a b) → IsPositive (cross R c (closing R a b c)) → IsPositive (circle R a b c (closing R a b c)) → IsPositive (cross R b c)
+  hinge_left : (a b c : Vector A) → IsPositive (cross R a b) → IsPositive (cross R c (closing R a b c))
+      → IsPositive (circle R a b c (closing R a b c)) → IsPositive (cross R b c)
   hinge_left a b c ab cg p =
       let form_negative : IsPositive (neg (form R (cross R a b) (cross R c (closing R a b c)) (neg (cross R b c)) a b)) =
       signs.positive_of_eq L (sym (cross-mul-circle a b c)) (L.mul_positive ab p) in
@@ -78,13 +82,15 @@ module _ {A : Type 0} {R : Operations A} {IsPositive : A → Type 0} (L : IsOrde
       (plane_derived L.ring [] (a ∷ b ∷ c ∷ g ∷ []) (λ a b c g. g.x ≐ (closing E a b c).x from (numeral 1, (add_vector E (add_vector E a b) (add_vector E c g)).x ≐ numeral 0) ∷ []) refl (ap (λ v. v.x) e, tt))
       (plane_derived L.ring [] (a ∷ b ∷ c ∷ g ∷ []) (λ a b c g. g.y ≐ (closing E a b c).y from (numeral 1, (add_vector E (add_vector E a b) (add_vector E c g)).y ≐ numeral 0) ∷ []) refl (ap (λ v. v.y) e, tt))
 
-  turn_left : (a b c g : Vector A) → add_vector R (add_vector R a b) (add_vector R c g) ≡ zero_vector R → IsPositive (cross R a b) → IsPositive (cross R c g) → IsPositive (circle R a b c g) → IsPositive (cross R b c)
+  turn_left : (a b c g : Vector A) → add_vector R (add_vector R a b) (add_vector R c g) ≡ zero_vector R → IsPositive (cross R a b)
+      → IsPositive (cross R c g) → IsPositive (circle R a b c g) → IsPositive (cross R b c)
   turn_left a b c g e ab cg p =
       let last = closes a b c g e in
       hinge_left a b c ab (subst (λ v. IsPositive (cross R c v)) last cg) (subst (λ v. IsPositive (circle R a b c v)) last p)
 
   -- the hinge of an edge with a positive circle value is strictly convex: all four corners turn left
-  pub hinge_convex : (a b c g : Vector A) → add_vector R (add_vector R a b) (add_vector R c g) ≡ zero_vector R → IsPositive (cross R a b) → IsPositive (cross R c g) → IsPositive (circle R a b c g) → IsPositive (cross R b c) × IsPositive (cross R g a)
+  pub hinge_convex : (a b c g : Vector A) → add_vector R (add_vector R a b) (add_vector R c g) ≡ zero_vector R → IsPositive (cross R a b)
+      → IsPositive (cross R c g) → IsPositive (circle R a b c g) → IsPositive (cross R b c) × IsPositive (cross R g a)
   hinge_convex a b c g e ab cg p = (
     turn_left a b c g e ab cg p,
     turn_left c g a b (plane.add_vector_comm L.ring (add_vector R c g) (add_vector R a b) ∙ e) cg ab (signs.positive_of_eq L (plane.circle_swap L.ring a b c g) p),

@@ -4,8 +4,7 @@ use Rattle.fs_ring.specs.Operations.{Operations, sub, square}
 use Rattle.fs_ring.specs.OrderedRing.{IsOrderedRing, positive, null, negative, IsLess, IsAtMost, IsNonNegative, Comparison, less, equal, greater}
 use Rattle.fs_ring.proofs.RingLaws as ring
 use Rattle.fs_ring.proofs.Signs as signs
-use Rattle.fs_ring.proofs.Solver.{◌⊕◌, ◌⊖◌, ◌⊗◌, ◌≐◌, ◌from◌, identity, derived, numeral}
-use Rattle.fs_ring.proofs.Solver as solver
+use Rattle.fs_ring.proofs.Solver.{expressions as E, ◌⊕◌, ◌⊖◌, ◌⊗◌, ◌≐◌, ◌from◌, derived, numeral}
 
 module _ {A : Type 0} {R : Operations A} {IsPositive : A → Type 0} (L : IsOrderedRing R IsPositive) where
   open R use {add as ◌+◌, mul as ◌*◌, neg, zero as 𝟘}
@@ -102,10 +101,10 @@ module _ {A : Type 0} {R : Operations A} {IsPositive : A → Type 0} (L : IsOrde
   positive_of_zero_less {x} = signs.positive_by L (x ∷ []) (λ x. x ≐ x ⊖ numeral 0) refl
 
   pub less_zero : {x : A} → IsPositive (neg x) → x < 𝟘
-  less_zero {x} = signs.positive_by L (x ∷ []) (λ x. numeral 0 ⊖ x ≐ solver.negative x) refl
+  less_zero {x} = signs.positive_by L (x ∷ []) (λ x. numeral 0 ⊖ x ≐ E.neg x) refl
 
   pub negative_of_less_zero : {x : A} → x < 𝟘 → IsPositive (neg x)
-  negative_of_less_zero {x} = signs.positive_by L (x ∷ []) (λ x. solver.negative x ≐ numeral 0 ⊖ x) refl
+  negative_of_less_zero {x} = signs.positive_by L (x ∷ []) (λ x. E.neg x ≐ numeral 0 ⊖ x) refl
 
   pub zero_at_most : {x : A} → IsNonNegative R IsPositive x → 𝟘 ≤ x
   zero_at_most h k = h (negative_of_less_zero k)
@@ -138,10 +137,10 @@ module _ {A : Type 0} {R : Operations A} {IsPositive : A → Type 0} (L : IsOrde
   pub add_at_most_add : (w x y z : A) → w ≤ x → y ≤ z → w + y ≤ x + z
   add_at_most_add w x y z h k =
       at_most_of_sub (w + y) (x + z) (λ n. signs.add_non_negative L (sub_of_at_most w x h) (sub_of_at_most y z k)
-      (signs.positive_by L (w ∷ x ∷ y ∷ z ∷ []) (λ w x y z. solver.negative ((x ⊖ w) ⊕ (z ⊖ y)) ≐ solver.negative ((x ⊕ z) ⊖ (w ⊕ y))) refl n))
+      (signs.positive_by L (w ∷ x ∷ y ∷ z ∷ []) (λ w x y z. E.neg ((x ⊖ w) ⊕ (z ⊖ y)) ≐ E.neg ((x ⊕ z) ⊖ (w ⊕ y))) refl n))
 
   pub neg_less_neg : (x y : A) → x < y → neg y < neg x
-  neg_less_neg x y = signs.positive_by L (x ∷ y ∷ []) (λ x y. solver.negative x ⊖ solver.negative y ≐ y ⊖ x) refl
+  neg_less_neg x y = signs.positive_by L (x ∷ y ∷ []) (λ x y. E.neg x ⊖ E.neg y ≐ y ⊖ x) refl
 
   -- ---- products by a positive element
 

@@ -3,7 +3,7 @@ use Rattle.std.proofs.Common.{◌≡◌, [], ◌∷◌, refl}
 use Rattle.fs_ring.specs.Operations.{Operations, sub, square}
 use Rattle.fs_ring.specs.CommutativeRing.{IsCommutativeRing}
 use Rattle.fs_ring.specs.Vector.{Vector, zero_vector, add_vector, sub_vector, neg_vector, scale, cross, dot, norm, twice_area, circle}
-use Rattle.fs_ring.proofs.Solver.{expressions as E, numeral, negative, ◌⊕◌, ◌⊖◌, ◌⊗◌, ◌≐◌}
+use Rattle.fs_ring.proofs.Solver.{expressions as E, numeral, ◌⊕◌, ◌⊖◌, ◌⊗◌, ◌≐◌}
 use Rattle.fs_ring.proofs.PlaneSolver.{plane_identity, vector_identity, ◌≐ᵥ◌}
 
 module _ {A : Type 0} {R : Operations A} (L : IsCommutativeRing R) where
@@ -34,7 +34,7 @@ module _ {A : Type 0} {R : Operations A} (L : IsCommutativeRing R) where
   -- ---- the cross product
 
   pub cross_antisymm : (a b : Vector A) → cross R b a ≡ neg (cross R a b)
-  cross_antisymm a b = plane_identity L [] (a ∷ b ∷ []) (λ a b. cross E b a ≐ negative (cross E a b)) refl
+  cross_antisymm a b = plane_identity L [] (a ∷ b ∷ []) (λ a b. cross E b a ≐ E.neg (cross E a b)) refl
 
   pub cross_self : (a : Vector A) → cross R a a ≡ 𝟘
   cross_self a = plane_identity L [] (a ∷ []) (λ a. cross E a a ≐ numeral 0) refl
@@ -52,10 +52,10 @@ module _ {A : Type 0} {R : Operations A} (L : IsCommutativeRing R) where
   cross-sub_right a b c = plane_identity L [] (a ∷ b ∷ c ∷ []) (λ a b c. cross E a (sub_vector E b c) ≐ cross E a b ⊖ cross E a c) refl
 
   pub cross-neg_left : (a b : Vector A) → cross R (neg_vector R a) b ≡ neg (cross R a b)
-  cross-neg_left a b = plane_identity L [] (a ∷ b ∷ []) (λ a b. cross E (neg_vector E a) b ≐ negative (cross E a b)) refl
+  cross-neg_left a b = plane_identity L [] (a ∷ b ∷ []) (λ a b. cross E (neg_vector E a) b ≐ E.neg (cross E a b)) refl
 
   pub cross-neg_right : (a b : Vector A) → cross R a (neg_vector R b) ≡ neg (cross R a b)
-  cross-neg_right a b = plane_identity L [] (a ∷ b ∷ []) (λ a b. cross E a (neg_vector E b) ≐ negative (cross E a b)) refl
+  cross-neg_right a b = plane_identity L [] (a ∷ b ∷ []) (λ a b. cross E a (neg_vector E b) ≐ E.neg (cross E a b)) refl
 
   pub cross-scale_left : (k : A) (a b : Vector A) → cross R (scale R k a) b ≡ k * cross R a b
   cross-scale_left k a b = plane_identity L (k ∷ []) (a ∷ b ∷ []) (λ k a b. cross E (scale E k a) b ≐ k ⊗ cross E a b) refl
@@ -87,10 +87,10 @@ module _ {A : Type 0} {R : Operations A} (L : IsCommutativeRing R) where
   dot-sub_right a b c = plane_identity L [] (a ∷ b ∷ c ∷ []) (λ a b c. dot E a (sub_vector E b c) ≐ dot E a b ⊖ dot E a c) refl
 
   pub dot-neg_left : (a b : Vector A) → dot R (neg_vector R a) b ≡ neg (dot R a b)
-  dot-neg_left a b = plane_identity L [] (a ∷ b ∷ []) (λ a b. dot E (neg_vector E a) b ≐ negative (dot E a b)) refl
+  dot-neg_left a b = plane_identity L [] (a ∷ b ∷ []) (λ a b. dot E (neg_vector E a) b ≐ E.neg (dot E a b)) refl
 
   pub dot-neg_right : (a b : Vector A) → dot R a (neg_vector R b) ≡ neg (dot R a b)
-  dot-neg_right a b = plane_identity L [] (a ∷ b ∷ []) (λ a b. dot E a (neg_vector E b) ≐ negative (dot E a b)) refl
+  dot-neg_right a b = plane_identity L [] (a ∷ b ∷ []) (λ a b. dot E a (neg_vector E b) ≐ E.neg (dot E a b)) refl
 
   pub dot-scale_left : (k : A) (a b : Vector A) → dot R (scale R k a) b ≡ k * dot R a b
   dot-scale_left k a b = plane_identity L (k ∷ []) (a ∷ b ∷ []) (λ k a b. dot E (scale E k a) b ≐ k ⊗ dot E a b) refl
@@ -123,7 +123,8 @@ module _ {A : Type 0} {R : Operations A} (L : IsCommutativeRing R) where
   lagrange a b = plane_identity L [] (a ∷ b ∷ []) (λ a b. square E (cross E a b) ⊕ square E (dot E a b) ≐ norm E a ⊗ norm E b) refl
 
   -- the Plücker identity of three vectors
-  pub plucker : (a b c : Vector A) → add_vector R (add_vector R (scale R (cross R a b) c) (scale R (cross R b c) a)) (scale R (cross R c a) b) ≡ zero_vector R
+  pub plucker : (a b c : Vector A)
+      → add_vector R (add_vector R (scale R (cross R a b) c) (scale R (cross R b c) a)) (scale R (cross R c a) b) ≡ zero_vector R
   plucker a b c =
       vector_identity L [] (a ∷ b ∷ c ∷ [])
       (λ a b c. add_vector E (add_vector E (scale E (cross E a b) c) (scale E (cross E b c) a)) (scale E (cross E c a) b) ≐ᵥ zero_vector E) refl
@@ -171,9 +172,10 @@ module _ {A : Type 0} {R : Operations A} (L : IsCommutativeRing R) where
   twice_area-rotate a b c = plane_identity L [] (a ∷ b ∷ c ∷ []) (λ a b c. twice_area E b c a ≐ twice_area E a b c) refl
 
   pub twice_area-swap : (a b c : Vector A) → twice_area R a c b ≡ neg (twice_area R a b c)
-  twice_area-swap a b c = plane_identity L [] (a ∷ b ∷ c ∷ []) (λ a b c. twice_area E a c b ≐ negative (twice_area E a b c)) refl
+  twice_area-swap a b c = plane_identity L [] (a ∷ b ∷ c ∷ []) (λ a b c. twice_area E a c b ≐ E.neg (twice_area E a b c)) refl
 
-  pub twice_area-translate : (t a b c : Vector A) → twice_area R (add_vector R t a) (add_vector R t b) (add_vector R t c) ≡ twice_area R a b c
+  pub twice_area-translate : (t a b c : Vector A)
+      → twice_area R (add_vector R t a) (add_vector R t b) (add_vector R t c) ≡ twice_area R a b c
   twice_area-translate t a b c =
       plane_identity L [] (t ∷ a ∷ b ∷ c ∷ []) (λ t a b c. twice_area E (add_vector E t a) (add_vector E t b) (add_vector E t c) ≐ twice_area E a b c) refl
 

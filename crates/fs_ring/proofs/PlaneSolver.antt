@@ -53,20 +53,26 @@ vector_eq p q = λ i. record { x = p i; y = q i }
 
 module _ {A : Type 0} {R : Operations A} (L : IsCommutativeRing R) where
   -- an identity over scalars and vectors: `plane_identity L (k ∷ []) (a ∷ b ∷ []) (λ k a b. cross expressions (scale expressions k a) b ≐ k ⊗ cross expressions a b) refl`
-  pub plane_identity : (xs : List A) (vs : List (Vector A)) (f : OverPlane xs vs Equation) → is_identity (at_plane 0 xs vs f) ≡ true → Holds R (elements xs vs) (at_plane 0 xs vs f)
+  pub plane_identity : (xs : List A) (vs : List (Vector A)) (f : OverPlane xs vs Equation) → is_identity (at_plane 0 xs vs f) ≡ true
+      → Holds R (elements xs vs) (at_plane 0 xs vs f)
   plane_identity xs vs f passed = holds_by_test L (elements xs vs) (at_plane 0 xs vs f) passed
 
   -- what follows from equations, as `derived` has it
-  pub plane_derived : (xs : List A) (vs : List (Vector A)) (f : OverPlane xs vs Derivation) → is_derivation (at_plane 0 xs vs f) ≡ true → AllHold R (elements xs vs) (at_plane 0 xs vs f).premises → Holds R (elements xs vs) (at_plane 0 xs vs f).conclusion
+  pub plane_derived : (xs : List A) (vs : List (Vector A)) (f : OverPlane xs vs Derivation) → is_derivation (at_plane 0 xs vs f) ≡ true
+      → AllHold R (elements xs vs) (at_plane 0 xs vs f).premises → Holds R (elements xs vs) (at_plane 0 xs vs f).conclusion
   plane_derived xs vs f passed all = derived_by_test L (elements xs vs) (at_plane 0 xs vs f) passed all
 
   -- an identity of vectors
-  pub vector_identity : (xs : List A) (vs : List (Vector A)) (f : OverPlane xs vs VectorEquation) → is_vector_identity (at_plane 0 xs vs f) ≡ true → evaluate_vector R (elements xs vs) (at_plane 0 xs vs f).left ≡ evaluate_vector R (elements xs vs) (at_plane 0 xs vs f).right
+  pub vector_identity : (xs : List A) (vs : List (Vector A)) (f : OverPlane xs vs VectorEquation)
+      → is_vector_identity (at_plane 0 xs vs f) ≡ true
+      → evaluate_vector R (elements xs vs) (at_plane 0 xs vs f).left ≡ evaluate_vector R (elements xs vs) (at_plane 0 xs vs f).right
   vector_identity xs vs f passed =
       let e = at_plane 0 xs vs f in
       let (first, second) = both_true (is_identity (e.left.x ≐ e.right.x)) (is_identity (e.left.y ≐ e.right.y)) passed in
       vector_eq (holds_by_test L (elements xs vs) (e.left.x ≐ e.right.x) first) (holds_by_test L (elements xs vs) (e.left.y ≐ e.right.y) second)
 
   -- what holds of the right side holds of the left
-  pub by_plane_identity : (P : A → Type 0) (xs : List A) (vs : List (Vector A)) (f : OverPlane xs vs Equation) → is_identity (at_plane 0 xs vs f) ≡ true → P (evaluate R (elements xs vs) (at_plane 0 xs vs f).right) → P (evaluate R (elements xs vs) (at_plane 0 xs vs f).left)
+  pub by_plane_identity : (P : A → Type 0) (xs : List A) (vs : List (Vector A)) (f : OverPlane xs vs Equation)
+      → is_identity (at_plane 0 xs vs f) ≡ true → P (evaluate R (elements xs vs) (at_plane 0 xs vs f).right)
+      → P (evaluate R (elements xs vs) (at_plane 0 xs vs f).left)
   by_plane_identity P xs vs f passed = subst P (sym (plane_identity xs vs f passed))

@@ -83,11 +83,13 @@ module _ {A : Type 0} {R : Operations A} (L : IsCommutativeRing R) where
   value-variable_at xs zero = cc (zero_coefficient, one_coefficient, L.mul_one (first R xs), ring.zero_add L (first R xs))
   value-variable_at xs (suc i) = cc (value-variable_at (rest xs) i, zero_coefficient, ring.mul_zero L (first R xs), L.add_zero (nth R (rest xs) i))
 
-  pub value-shifted : (xs : List A) (a b : ℕ) (p : Polynomial) → value R xs (shifted a b p) ≡ R.add (sub R (of_nat R a) (of_nat R b)) (value R xs p)
+  pub value-shifted : (xs : List A) (a b : ℕ) (p : Polynomial)
+      → value R xs (shifted a b p) ≡ R.add (sub R (of_nat R a) (of_nat R b)) (value R xs p)
   value-shifted xs a b (constant c d) = cc (ring.of_nat-add L a c, ring.of_nat-add L b d, ring.sub-add L (of_nat R a) (of_nat R c) (of_nat R b) (of_nat R d))
   value-shifted xs a b (horner p q) = cc (value-shifted (rest xs) a b p, L.add_assoc (sub R (of_nat R a) (of_nat R b)) (value R (rest xs) p) (R.mul (first R xs) (value R xs q)))
 
-  pub value-scaled : (xs : List A) (a b : ℕ) (p : Polynomial) → value R xs (scaled a b p) ≡ R.mul (sub R (of_nat R a) (of_nat R b)) (value R xs p)
+  pub value-scaled : (xs : List A) (a b : ℕ) (p : Polynomial)
+      → value R xs (scaled a b p) ≡ R.mul (sub R (of_nat R a) (of_nat R b)) (value R xs p)
   value-scaled xs a b (constant c d) = cc (ring.of_nat-add L (a * c) (b * d), ring.of_nat-add L (a * d) (b * c), ring.of_nat-mul L a c, ring.of_nat-mul L b d, ring.of_nat-mul L a d, ring.of_nat-mul L b c, ring.sub-mul-sub L (of_nat R a) (of_nat R b) (of_nat R c) (of_nat R d))
   value-scaled xs a b (horner p q) =
       let c = sub R (of_nat R a) (of_nat R b) in
@@ -104,7 +106,9 @@ module _ {A : Type 0} {R : Operations A} (L : IsCommutativeRing R) where
   value-minus xs (constant a b) = sym (ring.neg-sub L (of_nat R a) (of_nat R b))
   value-minus xs (horner p q) = cc (value-minus (rest xs) p, value-minus xs q, ring.mul-neg L (first R xs) (value R xs q), ring.neg-add L (value R (rest xs) p) (R.mul (first R xs) (value R xs q)))
 
-  pub value-spread : (xs : List A) (f : Polynomial → Polynomial) (c : A) → ((r : Polynomial) → value R (rest xs) (f r) ≡ R.mul c (value R (rest xs) r)) → (r : Polynomial) → value R xs (spread f r) ≡ R.mul c (value R xs r)
+  pub value-spread : (xs : List A) (f : Polynomial → Polynomial) (c : A)
+      → ((r : Polynomial) → value R (rest xs) (f r) ≡ R.mul c (value R (rest xs) r)) → (r : Polynomial)
+      → value R xs (spread f r) ≡ R.mul c (value R xs r)
   value-spread xs f c h (constant a b) = cc (h (constant a b), zero_coefficient, ring.mul_zero L (first R xs), L.add_zero (R.mul c (sub R (of_nat R a) (of_nat R b))))
   value-spread xs f c h (horner r s) = cc (h r, value-spread xs f c h s, L.mul_add c (value R (rest xs) r) (R.mul (first R xs) (value R xs s)), ring.mul_left_comm L c (first R xs) (value R xs s))
 

@@ -3,8 +3,7 @@ use Rattle.std.proofs.Common.{◌≡◌, ◌≢◌, ◌⊎◌, ℕ, zero, suc, t
 use Rattle.fs_ring.specs.Operations.{Operations, sub, square, of_nat}
 use Rattle.fs_ring.specs.OrderedRing.{IsOrderedRing, Sign, positive, null, negative, IsNonNegative}
 use Rattle.fs_ring.proofs.RingLaws as ring
-use Rattle.fs_ring.proofs.Solver.{Equation, Over, at_variables, is_identity, evaluate, ◌⊕◌, ◌⊖◌, ◌⊗◌, ◌≐◌, ◌from◌, identity, derived, by_identity, numeral}
-use Rattle.fs_ring.proofs.Solver as solver
+use Rattle.fs_ring.proofs.Solver.{expressions as E, Equation, Over, at_variables, is_identity, evaluate, ◌⊖◌, ◌⊗◌, ◌≐◌, ◌from◌, derived, by_identity, numeral}
 
 module _ {A : Type 0} {R : Operations A} {IsPositive : A → Type 0} (L : IsOrderedRing R IsPositive) where
   open R use {add as ◌+◌, mul as ◌*◌, neg, zero as 𝟘, one as 𝟙}
@@ -15,7 +14,8 @@ module _ {A : Type 0} {R : Operations A} {IsPositive : A → Type 0} (L : IsOrde
   x - y = sub R x y
 
   -- what equals a positive element by an identity is positive: `positive_by L (x ∷ y ∷ []) (λ x y. goal ≐ known) refl h`
-  pub positive_by : (xs : List A) (f : Over xs Equation) → is_identity (at_variables 0 xs f) ≡ true → IsPositive (evaluate R xs (at_variables 0 xs f).right) → IsPositive (evaluate R xs (at_variables 0 xs f).left)
+  pub positive_by : (xs : List A) (f : Over xs Equation) → is_identity (at_variables 0 xs f) ≡ true
+      → IsPositive (evaluate R xs (at_variables 0 xs f).right) → IsPositive (evaluate R xs (at_variables 0 xs f).left)
   positive_by = by_identity L.ring IsPositive
 
   pub positive_of_eq : {x y : A} → x ≡ y → IsPositive y → IsPositive x
@@ -47,7 +47,7 @@ module _ {A : Type 0} {R : Operations A} {IsPositive : A → Type 0} (L : IsOrde
   mul_negative_positive {x} {y} n p = subst IsPositive (ring.neg-mul L.ring x y) (L.mul_positive n p)
 
   pub mul_negative_negative : {x y : A} → IsPositive (neg x) → IsPositive (neg y) → IsPositive (x * y)
-  mul_negative_negative {x} {y} m n = positive_by (x ∷ y ∷ []) (λ x y. x ⊗ y ≐ solver.negative x ⊗ solver.negative y) refl (L.mul_positive m n)
+  mul_negative_negative {x} {y} m n = positive_by (x ∷ y ∷ []) (λ x y. x ⊗ y ≐ E.neg x ⊗ E.neg y) refl (L.mul_positive m n)
 
   -- the sign of a product from those of its factors
   pub mul_sign : {x y : A} → Sign R IsPositive x → Sign R IsPositive y → Sign R IsPositive (x * y)

@@ -131,9 +131,11 @@ module _ {A : Type 0} {R : Operations A} (L : IsCommutativeRing R) where
       (holds_by_test xs (difference d.conclusion ≐ combination d.premises) passed ∙ combination-zero xs d.premises all)
 
   -- what follows from equations: `derived L (x ∷ y ∷ z ∷ []) (λ x y z. x ⊗ z ≐ y ⊗ z from (z, x ≐ y) ∷ []) refl (h, tt)`
-  pub derived : (xs : List A) (f : Over xs Derivation) → is_derivation (at_variables 0 xs f) ≡ true → AllHold R xs (at_variables 0 xs f).premises → Holds R xs (at_variables 0 xs f).conclusion
+  pub derived : (xs : List A) (f : Over xs Derivation) → is_derivation (at_variables 0 xs f) ≡ true
+      → AllHold R xs (at_variables 0 xs f).premises → Holds R xs (at_variables 0 xs f).conclusion
   derived xs f passed all = derived_by_test xs (at_variables 0 xs f) passed all
 
   -- what holds of the right side holds of the left
-  pub by_identity : (P : A → Type 0) (xs : List A) (f : Over xs Equation) → is_identity (at_variables 0 xs f) ≡ true → P (evaluate R xs (at_variables 0 xs f).right) → P (evaluate R xs (at_variables 0 xs f).left)
+  pub by_identity : (P : A → Type 0) (xs : List A) (f : Over xs Equation) → is_identity (at_variables 0 xs f) ≡ true
+      → P (evaluate R xs (at_variables 0 xs f).right) → P (evaluate R xs (at_variables 0 xs f).left)
   by_identity P xs f passed = subst P (sym (identity xs f passed))

@@ -47,7 +47,7 @@ module _ {A : Type 0} (R : Operations A) where
   abbrev pub twice_area : Vector A → Vector A → Vector A → A
   twice_area a b c = cross (sub_vector b a) (sub_vector c a)
 
-  -- the circle value of an edge between the triangles that go on with the sides a, b and c, g:
-  -- at most 0 exactly where the fourth point isn't strictly inside the circle of the other three
+  -- the circle value of an edge of two counterclockwise triangles, which go on with the sides a, b and c, g:
+  -- positive where the fourth point is strictly inside the circle of the other three
   abbrev pub circle : Vector A → Vector A → Vector A → Vector A → A
   circle a b c g = R.add (R.mul (cross a b) (dot c g)) (R.mul (cross c g) (dot a b))
