@@ -1,3 +1,4 @@
+pub mod Firsts
 pub mod NormForm
 pub mod SquareRoot
 pub mod Laws

@@ -1,3 +1,4 @@
+pub mod First
 pub mod Ring
 pub mod Width
 pub mod Radicand

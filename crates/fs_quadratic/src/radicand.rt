@@ -1,28 +1,11 @@
-ghost use Rattle.std.specs.Prelude.{◌≡◌};
-ghost use Rattle.std.specs.Result.{OkIff};
+ghost use Rattle.std.specs.Prelude.{◌≡◌, ◌↔◌, IfOk, IsErr};
 ghost use Rattle.fs_quadratic.specs.Radicand.{IsRadicand};
 
-use std::marker::Model;
-
 /// The numbers a + b·√d with fractions a and b, for a squarefree d from 2 to 999.
-///
-/// Contracts see a field as its d.
 #[derive(Clone, Copy, Debug, PartialEq, Eq, Hash)]
 pub struct Field {
-    d: u16,
-}
-
-impl Model for Field {
-    ghost use Rattle.std.specs.Prelude.{ℕ};
-    ghost use Rattle.fs_quadratic.specs.Radicand.{IsRadicand};
-
-    ghost Value = { ℕ };
-
-    ghost view = { λ f. f.d };
-
-    ghost invariant = { λ f. IsRadicand f.d };
-
-    ghost inverse = { λ d. record { d = d } };
+    pub d: u16,
+    pub ghost radicand: { IsRadicand d },
 }
 
 /// The number is the d of no field: it isn't squarefree, or not in 2..=999.
@@ -32,7 +15,8 @@ pub struct BadField;
 impl Field {
     /// The field of √d, or `BadField` exactly where d isn't squarefree or not in 2..=999.
     pub fn new(d: u16) -> Result<Field, BadField>
-        ensures { OkIff result (IsRadicand d) d }
+        ensures field { IfOk result (λ field. field.d ≡ d) }
+        ensures bad { IsErr result ↔ ¬ IsRadicand d }
     {
         if !(2..=999).contains(&d) {
             return Err(BadField);
@@ -47,8 +31,7 @@ impl Field {
 
     /// Its d.
     pub fn d(self) -> u16
-        ensures value { result ≡ self }
-        ensures radicand { IsRadicand self }
+        ensures { result ≡ self.d }
     {
         self.d
     }

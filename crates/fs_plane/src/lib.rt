@@ -1,0 +1,10 @@
+// Vectors of the plane over p + q·√d, the corners of polygons, and where a computation stops.
+#![tactic(auto)]
+
+mod corners;
+mod sites;
+mod vector;
+
+pub use corners::Corner;
+pub use sites::{Place, Site, Stop};
+pub use vector::V2;

@@ -1,0 +1,22 @@
+/// The number, from 1, of the operation of a formula whose exact result leaves the width.
+#[derive(Clone, Copy, Debug, PartialEq, Eq, PartialOrd, Ord, Hash)]
+pub struct Place(pub u32);
+
+/// Where a computation stopped: a formula, what it was applied to, and the place in it. The
+/// numbers stand in the order in which they are printed.
+#[derive(Clone, Copy, Debug, PartialEq, Eq, Hash)]
+pub enum Site {
+    /// The place of vertex `side` of a polygon plus that side: place 1 is x, place 2 is y.
+    Close { polygon: u32, side: u32, place: u32 },
+}
+
+/// Why a computation over a surface gives no answer.
+#[derive(Clone, Copy, Debug, PartialEq, Eq, Hash)]
+pub enum Stop {
+    /// The budget of so many steps is spent.
+    Undecided(u32),
+    /// An exact result leaves the width.
+    Overflow(Site),
+    /// Memory ran out.
+    NoMemory,
+}

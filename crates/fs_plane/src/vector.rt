@@ -1,0 +1,29 @@
+ghost use Rattle.std.specs.Prelude.{◌≡◌};
+ghost use Rattle.fs_plane.specs.Vector.{vector_zero, vector_neg};
+
+use fs_quadratic::Elem;
+
+/// A vector of the plane. On a surface its parts are the true ones times the surface's denominator.
+#[derive(Clone, Copy, Debug, PartialEq, Eq, Hash)]
+pub struct V2 {
+    pub x: Elem,
+    pub y: Elem,
+}
+
+impl V2 {
+    /// The vector (0, 0).
+    pub const ZERO: V2 = V2 {
+        x: Elem::ZERO,
+        y: Elem::ZERO,
+    };
+
+    /// The opposite vector. It always fits.
+    pub fn neg(self) -> V2
+        ensures { result ≡ vector_neg self }
+    {
+        V2 {
+            x: self.x.neg(),
+            y: self.y.neg(),
+        }
+    }
+}
