@@ -3,3 +3,4 @@ pub mod NormForm
 pub mod SquareRoot
 pub mod Laws
 pub mod Signs
+pub mod Parts

@@ -103,7 +103,7 @@ impl Elem {
 }
 
 // The sum, where it is within the width.
-fn checked_sum(a: i128, b: i128) -> Option<i128>
+pub(crate) fn checked_sum(a: i128, b: i128) -> Option<i128>
     ensures { SomeIff result (InWidth (a +ℤ b)) (a +ℤ b) }
 {
     match a.checked_add(b) {

@@ -2,6 +2,7 @@
 #![tactic(auto)]
 
 mod element;
+mod product;
 mod radicand;
 
 pub use element::{Elem, Op};
