@@ -4,3 +4,5 @@ pub mod SquareRoot
 pub mod Laws
 pub mod Signs
 pub mod Parts
+pub mod Bits
+pub mod Small

@@ -1,5 +1,5 @@
 -- The width: which numbers a computation may hold.
-use Rattle.std.specs.Prelude.{ℕ, ℤ, pos, neg_ℤ, ◌+ℤ◌, ◌*ℤ◌, ◌≤ℤ◌, ◌-◌, ◌^◌}
+use Rattle.std.specs.Prelude.{ℕ, ℤ, pos, neg_ℤ, ◌+ℤ◌, ◌*ℤ◌, ◌≤ℤ◌, ◌-◌, ◌^◌, ◌<◌, unsigned_abs}
 use Rattle.fs_quadratic.specs.Ring.{Quadratic, mul}
 
 -- from -(2^127 - 1) to 2^127 - 1
@@ -25,3 +25,7 @@ RootPartFits d x y = InWidth (x.p *ℤ y.q) × InWidth (x.q *ℤ y.p) × InWidth
 -- all seven are
 abbrev pub MulFits : ℕ → Quadratic → Quadratic → Type 0
 MulFits d x y = RationalPartFits d x y × RootPartFits d x y
+
+-- both parts are below 2^58 in size: a thousand times a product of two of them, and twice that, are within the width
+abbrev pub IsSmall : Quadratic → Type 0
+IsSmall x = (unsigned_abs x.p < 2 ^ 58) × (unsigned_abs x.q < 2 ^ 58)

@@ -2,7 +2,7 @@ ghost use Rattle.std.specs.Prelude.{◌≡◌, pos, ◌*ℤ◌, IfErr};
 ghost use Rattle.std.specs.Option.{SomeIff};
 ghost use Rattle.std.specs.Result.{OkIff};
 ghost use Rattle.fs_quadratic.specs.Ring.{mul};
-ghost use Rattle.fs_quadratic.specs.Width.{InWidth, MultipleFits, RationalPartFits, RootPartFits, MulFits};
+ghost use Rattle.fs_quadratic.specs.Width.{InWidth, MultipleFits, RationalPartFits, RootPartFits, MulFits, IsSmall};
 
 use crate::element::{Elem, Op, checked_sum};
 use crate::radicand::Field;
@@ -14,10 +14,25 @@ impl Field {
         ensures product { OkIff result (MulFits self.d x y) (mul self.d x y) }
         ensures refused { IfErr result (λ e. e ≡ Op.Mul) }
     {
+        if x.is_small() && y.is_small() {
+            return Ok(self.mul_small(x, y));
+        }
         match (rational_part(self.d, x, y), root_part(self.d, x, y)) {
             (Some(p), Some(q)) => Ok(Elem::new(p, q)),
             _ => Err(Op::Mul),
         }
+    }
+
+    /// The product of two small numbers, which always fits.
+    pub fn mul_small(self, x: Elem, y: Elem) -> Elem
+        requires left { IsSmall x }
+        requires right { IsSmall y }
+        ensures { result ≡ mul self.d x y }
+    {
+        Elem::new(
+            x.p() * y.p() + i128::from(self.d) * (x.q() * y.q()),
+            x.p() * y.q() + x.q() * y.p(),
+        )
     }
 }
 
