@@ -6,3 +6,6 @@ pub mod Signs
 pub mod Parts
 pub mod Bits
 pub mod Small
+pub mod Quotients
+pub mod Excess
+pub mod RootOrder

@@ -56,7 +56,7 @@ stands_neg z Greater h = omega (arith, ints)
 int_cmp-neg : (z : ℤ) → int_cmp (neg_ℤ z) (pos 0) ≡ ordering_reverse (int_cmp z (pos 0))
 int_cmp-neg z = sym (int_cmp_is (neg_ℤ z) (pos 0) (ordering_reverse (int_cmp z (pos 0))) (stands_neg z (int_cmp z (pos 0)) (int_ranks z (pos 0))))
 
-reverse-reverse : (r : Ordering) → ordering_reverse (ordering_reverse r) ≡ r
+pub reverse-reverse : (r : Ordering) → ordering_reverse (ordering_reverse r) ≡ r
 reverse-reverse Less = refl
 reverse-reverse Equal = refl
 reverse-reverse Greater = refl
