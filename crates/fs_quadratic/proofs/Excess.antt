@@ -29,6 +29,13 @@ above_root_positive d m = both (omega (arith, ints)) (omega (arith, ints)) (λ z
 whole_number_positive : (d n : ℕ) → 0 < n → IsPositive d (whole_number n)
 whole_number_positive d n h = both (omega (arith, ints)) (omega (arith, ints)) (λ zeros. let e = zeros.0 in absurd (omega (arith, ints)))
 
+-- with √d itself, n and b·√d are compared
+pub excess-first : (n b : ℕ) → excess 0 1 n b ≡ record { p = pos n; q = neg_ℤ (pos b) }
+excess-first n b = quadratic_eq (first_p n b) refl
+  where
+    first_p : (n b : ℕ) → pos (n * 1) -ℤ pos (0 * b) ≡ pos n
+    first_p n b = omega (arith, ints)
+
 -- ---- one step
 
 step_p : (d k m next a below n b r : ℤ) → k *ℤ a ≡ m +ℤ next → (a *ℤ below) +ℤ (next *ℤ next) ≡ d → n ≡ (k *ℤ b) +ℤ r

@@ -9,3 +9,4 @@ pub mod Small
 pub mod Quotients
 pub mod Excess
 pub mod RootOrder
+pub mod Comparison

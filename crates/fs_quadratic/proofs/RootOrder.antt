@@ -4,6 +4,7 @@ use Rattle.std.proofs.Math.Nat.{lt-mul-div-succ, div-mul-le_self, mul-le-mul, mo
 use Rattle.std.specs.Ordering.{nat_cmp, ordering_reverse, MatchOrdering}
 use Rattle.std.specs.declared.cmp.Ordering.{Ordering}
 use Rattle.std.specs.declared.cmp.Ordering.TheVariants.{Less, Equal, Greater}
+use Rattle.std.proofs.lemmas.Cmp.{ranked}
 use Rattle.fs_quadratic.specs.Radicand.{IsNoSquare}
 use Rattle.fs_quadratic.specs.Quotient.{IsCompleteQuotient, whole_part, excess}
 use Rattle.fs_quadratic.specs.Ring.{sign}
@@ -41,3 +42,17 @@ module _ {d root m a : ℕ} (no_square : IsNoSquare d) (q : IsCompleteQuotient d
   equal e =
       sign-step no_square whole m (quotients.next_m q) a (quotients.next_a q) n b (n % b) q.positive (quotients.next_m-add q) (quotients.next_a-mul q)
       (let parts = mod-add-div' n b in let product = ap (λ v. v * b) e in omega arith)
+
+  by_rank : (r : Ordering) → MatchOrdering r (n / b < whole) (n / b ≡ whole) (whole < n / b) → r ≢ Equal → r ≡ sign d (excess m a n b)
+  by_rank Less h ne = sym (less h)
+  by_rank Equal h ne = absurd (ne refl)
+  by_rank Greater h ne = sym (greater h)
+
+  -- where the whole parts differ, they tell
+  pub by_whole_parts : (r : Ordering) → r ≡ nat_cmp (n / b) whole → r ≢ Equal → r ≡ sign d (excess m a n b)
+  by_whole_parts r e ne = by_rank r (ranked (n / b) whole r e) ne
+
+  -- where they are equal, what the next step says tells, turned
+  pub by_next : (r : Ordering) → Equal ≡ nat_cmp (n / b) whole → r ≡ sign d (excess (quotients.next_m q) (quotients.next_a q) b (n % b))
+      → ordering_reverse r ≡ sign d (excess m a n b)
+  by_next r e h = ap ordering_reverse h ∙ sym (equal (ranked (n / b) whole Equal e))

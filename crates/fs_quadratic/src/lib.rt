@@ -2,7 +2,9 @@
 #![tactic(auto)]
 
 mod element;
+mod order;
 mod product;
+mod quotient;
 mod radicand;
 
 pub use element::{Elem, Op};
