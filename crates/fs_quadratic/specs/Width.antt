@@ -1,5 +1,5 @@
 -- The width: which numbers a computation may hold.
-use Rattle.std.specs.Prelude.{ℕ, ℤ, pos, neg_ℤ, ◌+ℤ◌, ◌*ℤ◌, ◌≤ℤ◌, ◌-◌, ◌^◌, ◌<◌, unsigned_abs}
+use Rattle.std.specs.Prelude.{ℕ, ℤ, pos, neg_ℤ, ◌+ℤ◌, ◌*ℤ◌, ◌≤ℤ◌, ◌-◌, ◌^◌, ◌<◌, unsigned_abs, Bool, ◌&&◌, nat_lt}
 use Rattle.fs_quadratic.specs.Ring.{Quadratic, mul}
 
 -- from -(2^127 - 1) to 2^127 - 1
@@ -29,3 +29,23 @@ MulFits d x y = RationalPartFits d x y × RootPartFits d x y
 -- both parts are below 2^58 in size: a thousand times a product of two of them, and twice that, are within the width
 abbrev pub IsSmall : Quadratic → Type 0
 IsSmall x = (unsigned_abs x.p < 2 ^ 58) × (unsigned_abs x.q < 2 ^ 58)
+
+-- ---- the same conditions as tests that compute
+
+abbrev pub is_in_width : ℤ → Bool
+is_in_width z = nat_lt (unsigned_abs z) (2 ^ 127)
+
+abbrev pub is_fitting : Quadratic → Bool
+is_fitting x = is_in_width x.p && is_in_width x.q
+
+abbrev pub is_fitting_multiple : ℕ → ℤ → ℤ → Bool
+is_fitting_multiple d a b = is_in_width (a *ℤ b) && is_in_width (pos d *ℤ (a *ℤ b))
+
+abbrev pub is_fitting_rational_part : ℕ → Quadratic → Quadratic → Bool
+is_fitting_rational_part d x y = is_in_width (x.p *ℤ y.p) && is_fitting_multiple d x.q y.q && is_in_width (mul d x y).p
+
+abbrev pub is_fitting_root_part : ℕ → Quadratic → Quadratic → Bool
+is_fitting_root_part d x y = is_in_width (x.p *ℤ y.q) && is_in_width (x.q *ℤ y.p) && is_in_width (mul d x y).q
+
+abbrev pub is_fitting_mul : ℕ → Quadratic → Quadratic → Bool
+is_fitting_mul d x y = is_fitting_rational_part d x y && is_fitting_root_part d x y
