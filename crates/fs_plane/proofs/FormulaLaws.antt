@@ -4,7 +4,7 @@ use Rattle.std.proofs.lemmas.Result.{OkIff-at_ok, Ok-from_Ok_iff}
 use Rattle.std.specs.Result.{OkIff}
 use Rattle.fs_quadratic.specs.Ring.{Quadratic, add, sub, mul}
 use Rattle.fs_quadratic.specs.Width.{Fits, MulFits, is_fitting, is_fitting_mul}
-use Rattle.fs_quadratic.proofs.Tests.{Decides-is_fitting, Decides-is_fitting_mul}
+use Rattle.fs_quadratic.proofs.WidthTests.{Decides-is_fitting, Decides-is_fitting_mul}
 use Rattle.fs_plane.specs.declared.sites.Place.{Place}
 use Rattle.fs_plane.specs.declared.vector.V2.{V2}
 use Rattle.fs_plane.specs.Vector.{cross, dot, norm}

@@ -1,9 +1,8 @@
 -- What says how n/b compares with a complete quotient turns its sign in one step of Euclid's.
-use Rattle.std.proofs.Common.{◌≡◌, ℕ, zero, suc, ◌+◌, ◌*◌, ◌<◌, ◌≤◌, ℤ, pos, neg_ℤ, ◌+ℤ◌, ◌-ℤ◌, ◌*ℤ◌, [], ◌∷◌, refl, sym, ap, ◌∙◌, subst, arith, mul-pos}
+use Rattle.std.proofs.Common.{◌≡◌, ℕ, zero, suc, ◌+◌, ◌*◌, ◌<◌, ℤ, pos, neg_ℤ, ◌+ℤ◌, ◌-ℤ◌, ◌*ℤ◌, [], ◌∷◌, refl, sym, ap, ◌∙◌, subst, arith, mul-pos}
 use Rattle.std.proofs.lemmas.Int.{ints}
 use Rattle.std.specs.Ordering.{ordering_reverse}
-use Rattle.std.specs.declared.cmp.Ordering.{Ordering}
-use Rattle.std.specs.declared.cmp.Ordering.TheVariants.{Less, Equal, Greater}
+use Rattle.std.specs.declared.cmp.Ordering.TheVariants.{Less, Greater}
 use Rattle.fs_ring.specs.OrderedRing.{positive, null, negative}
 use Rattle.fs_ring.proofs.RingLaws as ring
 use Rattle.fs_ring.proofs.Signs as signs
@@ -13,7 +12,7 @@ use Rattle.fs_quadratic.specs.Radicand.{IsNoSquare}
 use Rattle.fs_quadratic.specs.Quotient.{excess}
 use Rattle.fs_quadratic.specs.Ring.{Quadratic, add, mul, neg, IsPositive, both, by_p, by_q, sign}
 use Rattle.fs_quadratic.proofs.Laws.{quadratic_eq, quadratic_ring, quadratic_order}
-use Rattle.fs_quadratic.proofs.Signs.{sign-positive, sign-negative, sign-zero, sign-neg, reverse-reverse}
+use Rattle.fs_quadratic.proofs.Signs.{sign-positive, sign-negative, sign-zero, sign-neg}
 
 -- m + √d
 abbrev above_root : ℕ → Quadratic
@@ -43,14 +42,14 @@ step_p : (d k m next a below n b r : ℤ) → k *ℤ a ≡ m +ℤ next → (a *�
 step_p d k m next a below n b r e f g =
     derived integer_ring (d ∷ k ∷ m ∷ next ∷ a ∷ below ∷ n ∷ b ∷ r ∷ [])
     (λ d k m next a below n b r. (n ⊗ a ⊖ m ⊗ b) ⊗ next ⊕ d ⊗ (E.neg b ⊗ numeral 1) ≐ E.neg (a ⊗ (b ⊗ below ⊖ next ⊗ r) ⊕ d ⊗ (numeral 0 ⊗ E.neg r))
-      from (b ⊗ next, k ⊗ a ≐ m ⊕ next) ∷ (b, a ⊗ below ⊕ next ⊗ next ≐ d) ∷ (a ⊗ next, n ≐ k ⊗ b ⊕ r) ∷ []) refl (e, (f, (g, tt)))
+    from (b ⊗ next, k ⊗ a ≐ m ⊕ next) ∷ (b, a ⊗ below ⊕ next ⊗ next ≐ d) ∷ (a ⊗ next, n ≐ k ⊗ b ⊕ r) ∷ []) refl (e, (f, (g, tt)))
 
 step_q : (d k m next a below n b r : ℤ) → k *ℤ a ≡ m +ℤ next → n ≡ (k *ℤ b) +ℤ r
     → (((n *ℤ a) -ℤ (m *ℤ b)) *ℤ pos 1) +ℤ (neg_ℤ b *ℤ next) ≡ neg_ℤ ((a *ℤ neg_ℤ r) +ℤ (pos 0 *ℤ ((b *ℤ below) -ℤ (next *ℤ r))))
 step_q d k m next a below n b r e g =
     derived integer_ring (d ∷ k ∷ m ∷ next ∷ a ∷ below ∷ n ∷ b ∷ r ∷ [])
     (λ d k m next a below n b r. (n ⊗ a ⊖ m ⊗ b) ⊗ numeral 1 ⊕ E.neg b ⊗ next ≐ E.neg (a ⊗ E.neg r ⊕ numeral 0 ⊗ (b ⊗ below ⊖ next ⊗ r))
-      from (b, k ⊗ a ≐ m ⊕ next) ∷ (a, n ≐ k ⊗ b ⊕ r) ∷ []) refl (e, (g, tt))
+    from (b, k ⊗ a ≐ m ⊕ next) ∷ (a, n ≐ k ⊗ b ⊕ r) ∷ []) refl (e, (g, tt))
 
 -- times next + √d it is what the next step has, times -a
 step_product : (d k m next a below n b r : ℕ) → k * a ≡ m + next → a * below + next * next ≡ d → n ≡ k * b + r

@@ -1,5 +1,5 @@
 -- Laws of `IsFirstWithout` and of what holds of each element.
-use Rattle.std.proofs.Common.{◌≡◌, ℕ, List, [], ◌∷◌, ◌++◌, sym, ap, ◌∙◌, refl, subst, append_assoc, map}
+use Rattle.std.proofs.Common.{◌≡◌, List, [], ◌∷◌, ◌++◌, sym, ap, ◌∙◌, subst, append_assoc, map}
 use Rattle.std.proofs.lemmas.List.{map-append}
 use Rattle.std.specs.List.{AllByRecursion}
 use Rattle.fs_quadratic.specs.First.{IsFirstWithout}
@@ -19,16 +19,22 @@ All-back P (x ∷ xs) ys a = All-back P xs ys a.1
 -- the first of a front is the first of the whole
 pub first_of_front : {X : Type 0} (P : X → Type 0) (xs ys : List X) (x : X) → IsFirstWithout P xs x → IsFirstWithout P (xs ++ ys) x
 first_of_front P xs ys x f = record {
-  before = f.before; after = f.after ++ ys;
+  before = f.before;
+  after = f.after ++ ys;
   whole = ap (λ zs. zs ++ ys) f.whole ∙ append_assoc f.before (x ∷ f.after) ys;
-  passed = f.passed; fails = f.fails }
+  passed = f.passed;
+  fails = f.fails;
+}
 
 -- where the front passes, the first of the back is the first of the whole
 pub first_of_back : {X : Type 0} (P : X → Type 0) (xs ys : List X) (x : X) → AllByRecursion P xs → IsFirstWithout P ys x → IsFirstWithout P (xs ++ ys) x
 first_of_back P xs ys x a f = record {
-  before = xs ++ f.before; after = f.after;
+  before = xs ++ f.before;
+  after = f.after;
   whole = ap (λ zs. xs ++ zs) f.whole ∙ sym (append_assoc xs f.before (x ∷ f.after));
-  passed = All-append P xs f.before a f.passed; fails = f.fails }
+  passed = All-append P xs f.before a f.passed;
+  fails = f.fails;
+}
 
 -- through a map, what holds of each and the first without it
 pub All-map : {X Y : Type 0} (f : X → Y) (P : Y → Type 0) (xs : List X) → AllByRecursion (λ x. P (f x)) xs → AllByRecursion P (map f xs)
@@ -37,9 +43,12 @@ All-map f P (x ∷ xs) a = (a.0, All-map f P xs a.1)
 
 pub first_of_map : {X Y : Type 0} (f : X → Y) (P : Y → Type 0) (xs : List X) (x : X) → IsFirstWithout (λ z. P (f z)) xs x → IsFirstWithout P (map f xs) (f x)
 first_of_map f P xs x i = record {
-  before = map f i.before; after = map f i.after;
+  before = map f i.before;
+  after = map f i.after;
   whole = ap (map f) i.whole ∙ map-append f i.before (x ∷ i.after);
-  passed = All-map f P i.before i.passed; fails = i.fails }
+  passed = All-map f P i.before i.passed;
+  fails = i.fails;
+}
 
 -- what has a first without P doesn't have P throughout
 pub first_not_all : {X : Type 0} (P : X → Type 0) (xs : List X) (x : X) → IsFirstWithout P xs x → AllByRecursion P xs → ⊥

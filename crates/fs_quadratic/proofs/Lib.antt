@@ -10,4 +10,4 @@ pub mod Quotients
 pub mod Excess
 pub mod RootOrder
 pub mod Comparison
-pub mod Tests
+pub mod WidthTests

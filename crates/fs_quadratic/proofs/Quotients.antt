@@ -1,5 +1,5 @@
 -- From one complete quotient of √d to the next.
-use Rattle.std.proofs.Common.{◌≡◌, ◌≢◌, ℕ, zero, suc, ◌+◌, ◌-◌, ◌*◌, ◌/◌, ◌<◌, ◌≤◌, arith, refl, sym, ap, ◌∙◌, subst}
+use Rattle.std.proofs.Common.{◌≡◌, ℕ, zero, suc, ◌+◌, ◌-◌, ◌*◌, ◌/◌, ◌<◌, ◌≤◌, arith, refl, sym, ap, ◌∙◌}
 use Rattle.std.proofs.Math.Nat.{mul-sub, mul-div_cancel_left, div-mul-le_self, lt-mul-div-succ, mul-le-mul, mul_comm}
 use native.Mathlib.Decide.{dec_lt}
 use Rattle.fs_quadratic.specs.Radicand.{IsRadicand}

@@ -1,5 +1,5 @@
 -- Numbers with small parts have products within the width.
-use Rattle.std.proofs.Common.{◌≡◌, ℕ, ◌+◌, ◌-◌, ◌*◌, ◌^◌, ◌<◌, ◌≤◌, ℤ, pos, negsuc, ◌+ℤ◌, ◌*ℤ◌, arith, sym, subst}
+use Rattle.std.proofs.Common.{ℕ, ◌+◌, ◌-◌, ◌*◌, ◌^◌, ◌<◌, ◌≤◌, ℤ, pos, negsuc, ◌+ℤ◌, ◌*ℤ◌, arith, sym, subst}
 use Rattle.std.proofs.lemmas.Int.{ints, unsigned_abs-mul}
 use Rattle.std.proofs.Math.Nat.{mul-le-mul}
 use Rattle.std.specs.Prelude.{unsigned_abs}
@@ -43,11 +43,18 @@ small_fits d x y h s t =
     let qq = product_small x.q y.q s.1 t.1 in
     let pq = product_small x.p y.q s.0 t.1 in
     let qp = product_small x.q y.p s.1 t.0 in
-    let dqq = multiple_small d (x.q *ℤ y.q) h qq in
-    ((within (x.p *ℤ y.p) greatest pp (omega arith), (within (x.q *ℤ y.q) greatest qq (omega arith), within (pos d *ℤ (x.q *ℤ y.q)) (999 * greatest) dqq (omega arith)),
-      within (mul d x y).p (greatest + 999 * greatest) (sum_small (x.p *ℤ y.p) (pos d *ℤ (x.q *ℤ y.q)) greatest (999 * greatest) pp dqq) (omega arith)),
-     (within (x.p *ℤ y.q) greatest pq (omega arith), within (x.q *ℤ y.p) greatest qp (omega arith),
-      within (mul d x y).q (greatest + greatest) (sum_small (x.p *ℤ y.q) (x.q *ℤ y.p) greatest greatest pq qp) (omega arith)))
+    let dqq = multiple_small d (x.q *ℤ y.q) h qq in (
+      (
+        within (x.p *ℤ y.p) greatest pp (omega arith),
+        (within (x.q *ℤ y.q) greatest qq (omega arith), within (pos d *ℤ (x.q *ℤ y.q)) (999 * greatest) dqq (omega arith)),
+        within (mul d x y).p (greatest + 999 * greatest) (sum_small (x.p *ℤ y.p) (pos d *ℤ (x.q *ℤ y.q)) greatest (999 * greatest) pp dqq) (omega arith),
+      ),
+      (
+        within (x.p *ℤ y.q) greatest pq (omega arith),
+        within (x.q *ℤ y.p) greatest qp (omega arith),
+        within (mul d x y).q (greatest + greatest) (sum_small (x.p *ℤ y.q) (x.q *ℤ y.p) greatest greatest pq qp) (omega arith),
+      ),
+    )
 
 -- the same, for a field
 pub field_fits : (field : Field) (x y : Quadratic) → IsSmall x → IsSmall y → MulFits field.d x y

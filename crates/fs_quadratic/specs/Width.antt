@@ -1,5 +1,5 @@
 -- The width: which numbers a computation may hold.
-use Rattle.std.specs.Prelude.{ℕ, ℤ, pos, neg_ℤ, ◌+ℤ◌, ◌*ℤ◌, ◌≤ℤ◌, ◌-◌, ◌^◌, ◌<◌, unsigned_abs, Bool, ◌&&◌, nat_lt}
+use Rattle.std.specs.Prelude.{ℕ, ℤ, pos, neg_ℤ, ◌*ℤ◌, ◌≤ℤ◌, ◌-◌, ◌^◌, ◌<◌, unsigned_abs, Bool, ◌&&◌, nat_lt}
 use Rattle.fs_quadratic.specs.Ring.{Quadratic, mul}
 
 -- from -(2^127 - 1) to 2^127 - 1

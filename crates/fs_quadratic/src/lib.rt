@@ -6,6 +6,8 @@ mod order;
 mod product;
 mod quotient;
 mod radicand;
+#[cfg(test)]
+mod tests;
 
 pub use element::{Elem, Op};
 pub use radicand::{BadField, Field};

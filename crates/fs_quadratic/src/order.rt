@@ -1,11 +1,10 @@
 ghost use Rattle.std.specs.Prelude.{◌≡◌, ◌≢◌, ◌-ℤ◌, pos, neg_ℤ, unsigned_abs};
 ghost use Rattle.fs_quadratic.specs.Ring.{sign, compare};
 
-use std::cmp::Ordering;
-
 use crate::element::Elem;
 use crate::quotient::CompleteQuotient;
 use crate::radicand::Field;
+use std::cmp::Ordering;
 
 impl Field {
     /// How x compares with 0. The answer is always known, even where squares of its parts
@@ -36,7 +35,6 @@ impl Field {
         requires { x.p ≢ y.p }
         ensures { result ≡ sign self.d (record { p = pos (unsigned_abs (x.p -ℤ y.p)); q = neg_ℤ (pos (unsigned_abs (x.q -ℤ y.q))) }) }
     {
-        CompleteQuotient::first(self)
-            .compare_fraction(x.p().abs_diff(y.p()), x.q().abs_diff(y.q()))
+        CompleteQuotient::first(self).compare_fraction(x.p().abs_diff(y.p()), x.q().abs_diff(y.q()))
     }
 }

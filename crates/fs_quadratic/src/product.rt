@@ -40,7 +40,10 @@ impl Field {
 fn rational_part(d: u16, x: Elem, y: Elem) -> Option<i128>
     ensures { SomeIff result (RationalPartFits d x y) ((mul d x y).p) }
 {
-    match (checked_product(x.p(), y.p()), checked_multiple(d, x.q(), y.q())) {
+    match (
+        checked_product(x.p(), y.p()),
+        checked_multiple(d, x.q(), y.q()),
+    ) {
         (Some(rational), Some(roots)) => checked_sum(rational, roots),
         _ => None,
     }

@@ -2,9 +2,8 @@ ghost use Rattle.std.specs.Prelude.{◌≡◌, ◌+◌, ◌*◌, ◌-◌, ◌/�
 ghost use Rattle.fs_quadratic.specs.Quotient.{IsCompleteQuotient, whole_part, excess};
 ghost use Rattle.fs_quadratic.specs.Ring.{sign};
 
-use std::cmp::Ordering;
-
 use crate::radicand::Field;
+use std::cmp::Ordering;
 
 // (m + √d)/a, a complete quotient of √d; `root` is the whole part of √d.
 #[derive(Clone, Copy)]

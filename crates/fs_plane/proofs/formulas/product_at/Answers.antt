@@ -1,7 +1,7 @@
 use Rattle.std.proofs.Common.{rules}
 use Rattle.fs_quadratic.specs.Ring.{mul}
 use Rattle.fs_quadratic.specs.Width.{MulFits, is_fitting_mul}
-use Rattle.fs_quadratic.proofs.Tests.{Decides-is_fitting_mul}
+use Rattle.fs_quadratic.proofs.WidthTests.{Decides-is_fitting_mul}
 use Rattle.fs_plane.proofs.Steps.{step_of_call}
 use Rattle.fs_plane.proofs.formulas.product_at.Goals as goal
 

@@ -1,4 +1,4 @@
-use Rattle.std.proofs.Common.{rules, ◌≡◌}
+use Rattle.std.proofs.Common.{rules}
 use Rattle.fs_quadratic.proofs.Parts.{same_answer}
 use Rattle.fs_quadratic.proofs.product.rational_part.Goals as goal
 

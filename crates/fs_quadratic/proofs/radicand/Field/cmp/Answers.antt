@@ -1,4 +1,4 @@
-use Rattle.std.proofs.Common.{◌≡◌, sym, ap, ◌∙◌}
+use Rattle.std.proofs.Common.{sym, ap, ◌∙◌}
 use Rattle.std.specs.Ordering.{ordering_reverse}
 use Rattle.fs_quadratic.proofs.Comparison.{int_cmp-bits, compare-equal_p, compare-greater_p, compare-less_p, compare-greater_less, compare-less_greater}
 use Rattle.fs_quadratic.proofs.radicand.Field.cmp.Goals as goal

@@ -2,9 +2,8 @@ use Rattle.std.proofs.Common.{ap, ◌∙◌, ◌-ℤ◌}
 use Rattle.std.specs.Prelude.{unsigned_abs}
 use Rattle.fs_quadratic.specs.Ring.{sign}
 use Rattle.fs_quadratic.specs.Quotient.{excess}
-use Rattle.fs_quadratic.proofs.Laws.{quadratic_eq}
 use Rattle.fs_quadratic.proofs.Excess.{excess-first}
-use Rattle.fs_quadratic.proofs.Comparison.{abs_sub-bits, distances}
+use Rattle.fs_quadratic.proofs.Comparison.{abs_sub-bits}
 use Rattle.fs_quadratic.proofs.radicand.Field.compare_sizes.Goals as goal
 
 pub returns : goal.returns
