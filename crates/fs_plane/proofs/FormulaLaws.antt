@@ -1,5 +1,5 @@
 -- Laws of the formulas: they give the values of the plane exactly where all numbers fit, and else the first place where one doesn't.
-use Rattle.std.proofs.Common.{◌≡◌, ℕ, ◌+◌, Bool, true, false, Result, Ok, Err, ◌↔◌, refl}
+use Rattle.std.proofs.Common.{◌≡◌, ℕ, Ok, Err, ◌↔◌}
 use Rattle.std.proofs.lemmas.Result.{OkIff-at_ok, Ok-from_Ok_iff}
 use Rattle.std.specs.Result.{OkIff}
 use Rattle.fs_quadratic.specs.Ring.{Quadratic, add, sub, mul}

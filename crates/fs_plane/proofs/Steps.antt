@@ -1,5 +1,5 @@
 -- A call that answers exactly where its numbers fit is a step of a checked computation.
-use Rattle.std.proofs.Common.{◌≡◌, ℕ, ◌+◌, Bool, true, false, cond, Result, Ok, Err, refl, sym, ap, ◌∙◌, subst, arith, ◌↔◌}
+use Rattle.std.proofs.Common.{◌≡◌, ℕ, ◌+◌, Bool, true, false, cond, Result, Ok, Err, refl, sym, ap, ◌∙◌, subst, ◌↔◌}
 use Rattle.std.specs.Bool.{Decides}
 use Rattle.std.specs.Result.{OkIff, MatchResult}
 use Rattle.fs_plane.specs.declared.sites.Place.{Place}
@@ -61,9 +61,10 @@ module _ {A B C : Type 0} (before : ℕ) (x : A) (y : B) (test : A → B → Boo
     -- and else the place of the first that doesn't
     pub chain_stops : (one two : Bool) (stop : Place) → Decides one P → Decides two Q → Decides (test x y) S
         → chain one two ≡ Err stop ↔ IsFirstOfThree P Q S before stop
-    chain_stops one two stop p q s =
-        ((λ e. ladder_stops one two (test x y) stop p q s (sym (chain-is one two) ∙ e)),
-         (λ h. chain-is one two ∙ ladder_stopped one two (test x y) stop p q s h))
+    chain_stops one two stop p q s = (
+      (λ e. ladder_stops one two (test x y) stop p q s (sym (chain-is one two) ∙ e)),
+      (λ h. chain-is one two ∙ ladder_stopped one two (test x y) stop p q s h),
+    )
 
 -- after n other steps the same chain stops n places later
 module _ {A B C : Type 0} (n : ℕ) (x : A) (y : B) (test : A → B → Bool) (value : A → B → C) where

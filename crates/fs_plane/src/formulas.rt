@@ -2,10 +2,9 @@ ghost use Rattle.std.specs.Prelude.{◌≡◌};
 ghost use Rattle.fs_plane.specs.Checked.{checked_product, checked_sum, checked_difference};
 ghost use Rattle.fs_plane.specs.Formulas.{cross_after, dot_after, norm_after};
 
-use fs_quadratic::{Elem, Field};
-
 use crate::sites::Place;
 use crate::vector::V2;
+use fs_quadratic::{Elem, Field};
 
 /// The cross product a.x·b.y - a.y·b.x, or the first place that leaves the width: place 1 is
 /// a.x·b.y, place 2 is a.y·b.x, and place 3 their difference.

@@ -4,6 +4,8 @@
 mod corners;
 mod formulas;
 mod sites;
+#[cfg(test)]
+mod tests;
 mod vector;
 
 pub use corners::Corner;
