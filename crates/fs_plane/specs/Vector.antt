@@ -2,6 +2,7 @@
 use Rattle.std.specs.Prelude.{ℕ, List, [], ◌∷◌}
 use Rattle.fs_ring.specs.Vector as plane
 use Rattle.fs_quadratic.specs.Ring.{Quadratic, quadratic, zero, add, neg}
+use Rattle.fs_quadratic.specs.Width.{IsSmall}
 use Rattle.fs_plane.specs.declared.vector.V2.{V2}
 
 -- the vector as one over the ring
@@ -14,6 +15,10 @@ vector_zero = record { x = zero; y = zero }
 -- the sum, by parts
 abbrev pub vector_add : V2 → V2 → V2
 vector_add a b = record { x = add a.x b.x; y = add a.y b.y }
+
+-- both parts are small
+abbrev pub IsSmallVector : V2 → Type 0
+IsSmallVector a = IsSmall a.x × IsSmall a.y
 
 -- the opposite vector
 abbrev pub vector_neg : V2 → V2

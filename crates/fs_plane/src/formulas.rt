@@ -1,6 +1,7 @@
 ghost use Rattle.std.specs.Prelude.{◌≡◌};
 ghost use Rattle.fs_plane.specs.Checked.{checked_product, checked_sum, checked_difference};
 ghost use Rattle.fs_plane.specs.Formulas.{cross_after, dot_after, norm_after};
+ghost use Rattle.fs_plane.specs.Vector.{IsSmallVector, cross, dot};
 
 use crate::sites::Place;
 use crate::vector::V2;
@@ -11,6 +12,17 @@ use fs_quadratic::{Elem, Field};
 pub fn cross(field: Field, a: V2, b: V2) -> Result<Elem, Place>
     ensures { result ≡ cross_after 0 field.d a b }
 {
+    if a.x.is_small() && a.y.is_small() && b.x.is_small() && b.y.is_small() {
+        Ok(cross_small(field, a, b))
+    } else {
+        cross_checked(field, a, b)
+    }
+}
+
+// The same for vectors of any size.
+fn cross_checked(field: Field, a: V2, b: V2) -> Result<Elem, Place>
+    ensures { result ≡ cross_after 0 field.d a b }
+{
     let left = product_at(1, field, a.x, b.y)?;
     let right = product_at(2, field, a.y, b.x)?;
     difference_at(3, left, right)
@@ -19,6 +31,17 @@ pub fn cross(field: Field, a: V2, b: V2) -> Result<Elem, Place>
 /// The dot product a.x·b.x + a.y·b.y, or the first place that leaves the width: place 1 is
 /// a.x·b.x, place 2 is a.y·b.y, and place 3 their sum.
 pub fn dot(field: Field, a: V2, b: V2) -> Result<Elem, Place>
+    ensures { result ≡ dot_after 0 field.d a b }
+{
+    if a.x.is_small() && a.y.is_small() && b.x.is_small() && b.y.is_small() {
+        Ok(dot_small(field, a, b))
+    } else {
+        dot_checked(field, a, b)
+    }
+}
+
+// The same for vectors of any size.
+fn dot_checked(field: Field, a: V2, b: V2) -> Result<Elem, Place>
     ensures { result ≡ dot_after 0 field.d a b }
 {
     let left = product_at(1, field, a.x, b.x)?;
@@ -32,6 +55,26 @@ pub fn norm(field: Field, a: V2) -> Result<Elem, Place>
 {
     let same = a;
     dot(field, a, same)
+}
+
+// The cross product of small vectors, which always fits.
+fn cross_small(field: Field, a: V2, b: V2) -> Elem
+    requires left { IsSmallVector a }
+    requires right { IsSmallVector b }
+    ensures { result ≡ cross field.d a b }
+{
+    let left = field.mul_small(a.x, b.y);
+    left.sub_fitting(field.mul_small(a.y, b.x))
+}
+
+// The dot product of small vectors, which always fits.
+fn dot_small(field: Field, a: V2, b: V2) -> Elem
+    requires left { IsSmallVector a }
+    requires right { IsSmallVector b }
+    ensures { result ≡ dot field.d a b }
+{
+    let left = field.mul_small(a.x, b.x);
+    left.add_fitting(field.mul_small(a.y, b.y))
 }
 
 fn product_at(place: u32, field: Field, x: Elem, y: Elem) -> Result<Elem, Place>

@@ -1,5 +1,5 @@
 -- Numbers within the width, and the bits that the code holds them by.
-use Rattle.std.proofs.Common.{◌≡◌, ℕ, ◌^◌, ◌<◌, ℤ, pos, negsuc, ◌+ℤ◌, ◌*ℤ◌, arith, sym, subst, to_z, of_z}
+use Rattle.std.proofs.Common.{◌≡◌, ℕ, ◌^◌, ◌<◌, ℤ, pos, negsuc, ◌+ℤ◌, ◌-ℤ◌, ◌*ℤ◌, arith, sym, subst, to_z, of_z}
 use Rattle.std.proofs.lemmas.Int.{ints, fits_signed_from_abs}
 use Rattle.std.specs.Prelude.{unsigned_abs, FitsSigned}
 use Rattle.std.specs.Int.{w128}
@@ -42,6 +42,15 @@ of_bits-add e f h = of_bits-is (add_eq e f) h
 
 pub fits-add : {a b y z : ℤ} → a ≡ y → b ≡ z → InWidth (y +ℤ z) → FitsSigned w128 (a +ℤ b)
 fits-add {a} {b} {y} {z} e f h = fits (a +ℤ b) (y +ℤ z) (add_eq e f) h
+
+sub_eq : {a b y z : ℤ} → a ≡ y → b ≡ z → a -ℤ b ≡ y -ℤ z
+sub_eq e f = cc
+
+pub of_bits-sub : {a b y z : ℤ} → a ≡ y → b ≡ z → InWidth (y -ℤ z) → of_bits (a -ℤ b) ≡ y -ℤ z
+of_bits-sub e f h = of_bits-is (sub_eq e f) h
+
+pub fits-sub : {a b y z : ℤ} → a ≡ y → b ≡ z → InWidth (y -ℤ z) → FitsSigned w128 (a -ℤ b)
+fits-sub {a} {b} {y} {z} e f h = fits (a -ℤ b) (y -ℤ z) (sub_eq e f) h
 
 pub within_of_eq : {a z : ℤ} → a ≡ z → InWidth z → InWidth a
 within_of_eq e h = subst InWidth (sym e) h

@@ -1,11 +1,11 @@
 -- Numbers with small parts have products within the width.
-use Rattle.std.proofs.Common.{ℕ, ◌+◌, ◌-◌, ◌*◌, ◌^◌, ◌<◌, ◌≤◌, ℤ, pos, negsuc, ◌+ℤ◌, ◌*ℤ◌, arith, sym, subst}
+use Rattle.std.proofs.Common.{ℕ, ◌+◌, ◌-◌, ◌*◌, ◌^◌, ◌<◌, ◌≤◌, ℤ, pos, negsuc, ◌+ℤ◌, ◌-ℤ◌, ◌*ℤ◌, arith, sym, subst}
 use Rattle.std.proofs.lemmas.Int.{ints, unsigned_abs-mul}
 use Rattle.std.proofs.Math.Nat.{mul-le-mul}
 use Rattle.std.specs.Prelude.{unsigned_abs}
 use Rattle.fs_quadratic.specs.declared.radicand.Field.{Field}
-use Rattle.fs_quadratic.specs.Ring.{Quadratic, mul}
-use Rattle.fs_quadratic.specs.Width.{InWidth, MulFits, IsSmall}
+use Rattle.fs_quadratic.specs.Ring.{Quadratic, add, sub, mul}
+use Rattle.fs_quadratic.specs.Width.{InWidth, Fits, MulFits, IsSmall}
 use Rattle.fs_quadratic.proofs.Bits.{within_of_abs}
 
 abs_add : (y z : ℤ) → unsigned_abs (y +ℤ z) ≤ unsigned_abs y + unsigned_abs z
@@ -59,3 +59,43 @@ small_fits d x y h s t =
 -- the same, for a field
 pub field_fits : (field : Field) (x y : Quadratic) → IsSmall x → IsSmall y → MulFits field.d x y
 field_fits field x y s t = small_fits field.d x y field.radicand.greatest s t
+
+-- ---- the sum and the difference of two products of small numbers fit
+
+-- the greatest part of a product of two small numbers
+abbrev greatest_part : ℕ
+greatest_part = greatest + 999 * greatest
+
+module _ (d : ℕ) (x y : Quadratic) (h : d ≤ 999) (s : IsSmall x) (t : IsSmall y) where
+  part_p : unsigned_abs (mul d x y).p ≤ greatest_part
+  part_p =
+      sum_small (x.p *ℤ y.p) (pos d *ℤ (x.q *ℤ y.q)) greatest (999 * greatest) (product_small x.p y.p s.0 t.0)
+      (multiple_small d (x.q *ℤ y.q) h (product_small x.q y.q s.1 t.1))
+
+  part_q : unsigned_abs (mul d x y).q ≤ greatest_part
+  part_q = let sum = sum_small (x.p *ℤ y.q) (x.q *ℤ y.p) greatest greatest (product_small x.p y.q s.0 t.1) (product_small x.q y.p s.1 t.0) in omega arith
+
+abs_sub : (y z : ℤ) → unsigned_abs (y -ℤ z) ≤ unsigned_abs y + unsigned_abs z
+abs_sub (pos m) (pos n) = omega (arith, ints)
+abs_sub (pos m) (negsuc n) = omega (arith, ints)
+abs_sub (negsuc m) (pos n) = omega (arith, ints)
+abs_sub (negsuc m) (negsuc n) = omega (arith, ints)
+
+sum_within : (y z : ℤ) → unsigned_abs y ≤ greatest_part → unsigned_abs z ≤ greatest_part → InWidth (y +ℤ z)
+sum_within y z m n = within (y +ℤ z) (greatest_part + greatest_part) (sum_small y z greatest_part greatest_part m n) (omega arith)
+
+difference_within : (y z : ℤ) → unsigned_abs y ≤ greatest_part → unsigned_abs z ≤ greatest_part → InWidth (y -ℤ z)
+difference_within y z m n = let s = abs_sub y z in within (y -ℤ z) (greatest_part + greatest_part) (omega arith) (omega arith)
+
+module _ (field : Field) (w x y z : Quadratic) (f : IsSmall w) (g : IsSmall x) (h : IsSmall y) (k : IsSmall z) where
+  pub small_sum_fits : Fits (add (mul field.d w x) (mul field.d y z))
+  small_sum_fits = (
+    sum_within (mul field.d w x).p (mul field.d y z).p (part_p field.d w x field.radicand.greatest f g) (part_p field.d y z field.radicand.greatest h k),
+    sum_within (mul field.d w x).q (mul field.d y z).q (part_q field.d w x field.radicand.greatest f g) (part_q field.d y z field.radicand.greatest h k),
+  )
+
+  pub small_difference_fits : Fits (sub (mul field.d w x) (mul field.d y z))
+  small_difference_fits = (
+    difference_within (mul field.d w x).p (mul field.d y z).p (part_p field.d w x field.radicand.greatest f g) (part_p field.d y z field.radicand.greatest h k),
+    difference_within (mul field.d w x).q (mul field.d y z).q (part_q field.d w x field.radicand.greatest f g) (part_q field.d y z field.radicand.greatest h k),
+  )

@@ -101,6 +101,22 @@ impl Elem {
         }
     }
 
+    /// The sum of two numbers that is known to fit, without checks.
+    pub fn add_fitting(self, y: Elem) -> Elem
+        requires { Fits (add self y) }
+        ensures { result ≡ add self y }
+    {
+        Elem::new(self.p() + y.p(), self.q() + y.q())
+    }
+
+    /// The difference of two numbers that is known to fit, without checks.
+    pub fn sub_fitting(self, y: Elem) -> Elem
+        requires { Fits (sub self y) }
+        ensures { result ≡ sub self y }
+    {
+        Elem::new(self.p() - y.p(), self.q() - y.q())
+    }
+
     /// The number with both signs turned. It always fits.
     pub fn neg(self) -> Elem
         ensures { result ≡ neg self }
