@@ -59,6 +59,7 @@ module _ (d : ℕ) (x y : Quadratic) where
 
   compare-by_parts : (p q : Ordering) → p ≡ int_cmp x.p y.p → q ≡ int_cmp x.q y.q
       → compare d x y ≡ sign_by_parts p q (int_cmp (difference.p *ℤ difference.p) (pos d *ℤ (difference.q *ℤ difference.q)))
+  unfolding compare sign
   compare-by_parts p q e f =
       λ i. sign_by_parts ((int_cmp-sub x.p y.p ∙ sym e) i) ((int_cmp-sub x.q y.q ∙ sym f) i) (int_cmp (difference.p *ℤ difference.p) (pos d *ℤ (difference.q *ℤ difference.q)))
 
@@ -76,12 +77,14 @@ module _ (d : ℕ) (x y : Quadratic) where
   compare-less_p Greater e f n = absurd (n refl)
 
   pub compare-greater_less : Greater ≡ int_cmp x.p y.p → Less ≡ int_cmp x.q y.q → sign d distances ≡ compare d x y
+  unfolding compare
   compare-greater_less e f =
       let p_above = int_ranked x.p y.p Greater e in
       let q_below = int_ranked x.q y.q Less f in
       sym (ap (sign d) (quadratic_eq {x = difference} {y = distances} (size_above (x.p -ℤ y.p) (omega (arith, ints))) (size_below (x.q -ℤ y.q) (omega (arith, ints)))))
 
   pub compare-less_greater : Less ≡ int_cmp x.p y.p → Greater ≡ int_cmp x.q y.q → ordering_reverse (sign d distances) ≡ compare d x y
+  unfolding compare
   compare-less_greater e f =
       let p_below = int_ranked x.p y.p Less e in
       let q_above = int_ranked x.q y.q Greater f in

@@ -20,6 +20,7 @@ Stands r y z = MatchOrdering r (y <ℤ z) (y ≡ z) (z <ℤ y)
 
 sign_from : (d : ℕ) (x : Quadratic) (a b c : Ordering) → Stands a x.p (pos 0) → Stands b x.q (pos 0)
     → Stands c (x.p *ℤ x.p) (pos d *ℤ (x.q *ℤ x.q)) → sign d x ≡ sign_by_parts a b c
+unfolding sign
 sign_from d x a b c ha hb hc =
     λ i. sign_by_parts (sym (int_cmp_is x.p (pos 0) a ha) i) (sym (int_cmp_is x.q (pos 0) b hb) i) (sym (int_cmp_is (x.p *ℤ x.p) (pos d *ℤ (x.q *ℤ x.q)) c hc) i)
 
@@ -44,6 +45,7 @@ sign-positive d x (by_p hp hq h) = sign_from d x Greater Less Greater hp hq h
 sign-positive d x (by_q hp hq h) = sign_from d x Less Greater Less hp hq h
 
 pub sign-zero : (d : ℕ) (x : Quadratic) → x ≡ zero → sign d x ≡ Equal
+unfolding sign
 sign-zero d x e = ap (sign d) e
 
 -- ---- the sign of the negative
@@ -75,12 +77,18 @@ square-neg : (z : ℤ) → neg_ℤ z *ℤ neg_ℤ z ≡ z *ℤ z
 square-neg z = identity integer_ring (z ∷ []) (λ z. E.neg z ⊗ E.neg z ≐ z ⊗ z) refl
 
 pub sign-neg : (d : ℕ) (x : Quadratic) → sign d (neg x) ≡ ordering_reverse (sign d x)
+unfolding sign
 sign-neg d x =
     (λ i. sign_by_parts (int_cmp-neg x.p i) (int_cmp-neg x.q i) (int_cmp (square-neg x.p i) (pos d *ℤ square-neg x.q i)))
     ∙ sign_by_parts-reverse (int_cmp x.p (pos 0)) (int_cmp x.q (pos 0)) (int_cmp (x.p *ℤ x.p) (pos d *ℤ (x.q *ℤ x.q)))
 
 pub sign-negative : (d : ℕ) (x : Quadratic) → IsPositive d (neg x) → sign d x ≡ Less
 sign-negative d x h = sym (reverse-reverse (sign d x)) ∙ ap ordering_reverse (sym (sign-neg d x) ∙ sign-positive d (neg x) h)
+
+-- the comparison is the sign of the difference
+pub compare-is : (d : ℕ) (x y : Quadratic) → compare d x y ≡ sign d (sub x y)
+unfolding compare
+compare-is d x y = refl
 
 -- ---- where d isn't a square, the sign tells where the number stands
 
@@ -107,6 +115,7 @@ module _ {d : ℕ} (no_square : IsNoSquare d) where
 
   -- the comparison says which of x < y, x = y and y < x holds
   pub compare_ranks : (x y : Quadratic) → MatchOrdering (compare d x y) (IsLess d x y) (x ≡ y) (IsLess d y x)
+  unfolding compare
   compare_ranks x y = go (sign d (sub x y)) (sign_ranks (sub x y))
     where
       go : (r : Ordering) → MatchOrdering r (IsPositive d (neg (sub x y))) (sub x y ≡ zero) (IsPositive d (sub x y))

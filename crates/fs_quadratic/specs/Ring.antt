@@ -57,9 +57,9 @@ sign_by_parts Less Equal squares = Less
 sign_by_parts Less Greater squares = ordering_reverse squares
 
 -- how the number compares with 0
-abbrev pub sign : ℕ → Quadratic → Ordering
+unfoldable pub sign : ℕ → Quadratic → Ordering
 sign d x = sign_by_parts (int_cmp x.p (pos 0)) (int_cmp x.q (pos 0)) (int_cmp (x.p *ℤ x.p) (pos d *ℤ (x.q *ℤ x.q)))
 
 -- how x compares with y
-abbrev pub compare : ℕ → Quadratic → Quadratic → Ordering
+unfoldable pub compare : ℕ → Quadratic → Quadratic → Ordering
 compare d x y = sign d (sub x y)
