@@ -8,6 +8,7 @@ use fs_quadratic::{Elem, Field};
 
 /// The cross product a.x·b.y - a.y·b.x, or the first place that leaves the width: place 1 is
 /// a.x·b.y, place 2 is a.y·b.x, and place 3 their difference.
+#[tactic(auto, unfolding(crate::specs::Formulas::cross_after))]
 pub fn cross(field: Field, a: V2, b: V2) -> Result<Elem, Place>
     ensures { result ≡ cross_after 0 field.d a b }
 {
@@ -18,6 +19,7 @@ pub fn cross(field: Field, a: V2, b: V2) -> Result<Elem, Place>
 
 /// The dot product a.x·b.x + a.y·b.y, or the first place that leaves the width: place 1 is
 /// a.x·b.x, place 2 is a.y·b.y, and place 3 their sum.
+#[tactic(auto, unfolding(crate::specs::Formulas::dot_after))]
 pub fn dot(field: Field, a: V2, b: V2) -> Result<Elem, Place>
     ensures { result ≡ dot_after 0 field.d a b }
 {
@@ -27,6 +29,7 @@ pub fn dot(field: Field, a: V2, b: V2) -> Result<Elem, Place>
 }
 
 /// The squared length, which is the dot product of a with itself, and has its places.
+#[tactic(auto, unfolding(crate::specs::Formulas::norm_after))]
 pub fn norm(field: Field, a: V2) -> Result<Elem, Place>
     ensures { result ≡ norm_after 0 field.d a }
 {
