@@ -16,11 +16,13 @@ module _ (before d : ℕ) (a b : V2) where
   -- ---- the cross product
 
   pub cross_ok : OkIff (cross_after before d a b) (CrossFits d a b) (cross d a b)
+  unfolding cross_after
   cross_ok =
       chain_ok before (mul d a.x b.y) (mul d a.y b.x) (λ x y. is_fitting (sub x y)) sub (is_fitting_mul d a.x b.y) (is_fitting_mul d a.y b.x)
       (Decides-is_fitting_mul d a.x b.y) (Decides-is_fitting_mul d a.y b.x) (Decides-is_fitting (cross d a b))
 
   pub cross_stops : (stop : Place) → cross_after before d a b ≡ Err stop ↔ IsFirstOfThree (MulFits d a.x b.y) (MulFits d a.y b.x) (Fits (cross d a b)) before stop
+  unfolding cross_after
   cross_stops stop =
       chain_stops before (mul d a.x b.y) (mul d a.y b.x) (λ x y. is_fitting (sub x y)) sub (is_fitting_mul d a.x b.y) (is_fitting_mul d a.y b.x) stop
       (Decides-is_fitting_mul d a.x b.y) (Decides-is_fitting_mul d a.y b.x) (Decides-is_fitting (cross d a b))
@@ -35,11 +37,13 @@ module _ (before d : ℕ) (a b : V2) where
   -- ---- the dot product
 
   pub dot_ok : OkIff (dot_after before d a b) (DotFits d a b) (dot d a b)
+  unfolding dot_after
   dot_ok =
       chain_ok before (mul d a.x b.x) (mul d a.y b.y) (λ x y. is_fitting (add x y)) add (is_fitting_mul d a.x b.x) (is_fitting_mul d a.y b.y)
       (Decides-is_fitting_mul d a.x b.x) (Decides-is_fitting_mul d a.y b.y) (Decides-is_fitting (dot d a b))
 
   pub dot_stops : (stop : Place) → dot_after before d a b ≡ Err stop ↔ IsFirstOfThree (MulFits d a.x b.x) (MulFits d a.y b.y) (Fits (dot d a b)) before stop
+  unfolding dot_after
   dot_stops stop =
       chain_stops before (mul d a.x b.x) (mul d a.y b.y) (λ x y. is_fitting (add x y)) add (is_fitting_mul d a.x b.x) (is_fitting_mul d a.y b.y) stop
       (Decides-is_fitting_mul d a.x b.x) (Decides-is_fitting_mul d a.y b.y) (Decides-is_fitting (dot d a b))
@@ -53,20 +57,25 @@ module _ (before d : ℕ) (a b : V2) where
 -- ---- the squared length
 
 pub norm_value : (before d : ℕ) (a : V2) (value : Quadratic) → norm_after before d a ≡ Ok value → value ≡ norm d a
+unfolding norm_after
 norm_value before d a value e = dot_value before d a a value e
 
 pub norm_fits : (before d : ℕ) (a : V2) → DotFits d a a → norm_after before d a ≡ Ok (norm d a)
+unfolding norm_after
 norm_fits before d a h = dot_fits before d a a h
 
 -- ---- after other steps the places are counted on
 
 pub cross_after-shifted : (before d : ℕ) (a b : V2) → cross_after before d a b ≡ shifted before (cross_after 0 d a b)
+unfolding cross_after
 cross_after-shifted before d a b =
     chain-shifted before (mul d a.x b.y) (mul d a.y b.x) (λ x y. is_fitting (sub x y)) sub (is_fitting_mul d a.x b.y) (is_fitting_mul d a.y b.x)
 
 pub dot_after-shifted : (before d : ℕ) (a b : V2) → dot_after before d a b ≡ shifted before (dot_after 0 d a b)
+unfolding dot_after
 dot_after-shifted before d a b =
     chain-shifted before (mul d a.x b.x) (mul d a.y b.y) (λ x y. is_fitting (add x y)) add (is_fitting_mul d a.x b.x) (is_fitting_mul d a.y b.y)
 
 pub norm_after-shifted : (before d : ℕ) (a : V2) → norm_after before d a ≡ shifted before (norm_after 0 d a)
+unfolding norm_after
 norm_after-shifted before d a = dot_after-shifted before d a a

@@ -3,7 +3,7 @@ use Rattle.std.proofs.Common.{◌≡◌, ℕ, Ok, sym, subst}
 use Rattle.fs_quadratic.specs.declared.radicand.Field.{Field}
 use Rattle.fs_quadratic.specs.Ring.{Quadratic, add, sub}
 use Rattle.fs_quadratic.specs.Width.{Fits}
-use Rattle.fs_quadratic.proofs.Small.{field_fits, small_sum_fits, small_difference_fits}
+use Rattle.fs_quadratic.proofs.Small.{small_fits, small_sum_fits, small_difference_fits}
 use Rattle.fs_plane.specs.declared.vector.V2.{V2}
 use Rattle.fs_plane.specs.Vector.{IsSmallVector, cross, dot}
 use Rattle.fs_plane.specs.Formulas.{cross_after, dot_after}
@@ -24,8 +24,8 @@ module _ (field : Field) (a b : V2) (s : IsSmallVector a) (t : IsSmallVector b) 
 
   pub small_cross : (before : ℕ) → cross_after before field.d a b ≡ Ok (cross field.d a b)
   small_cross before =
-      cross_fits before field.d a b (field_fits field a.x b.y s.0 t.1, field_fits field a.y b.x s.1 t.0, small_cross_fits)
+      cross_fits before field.d a b (small_fits field.d a.x b.y field.radicand.greatest s.0 t.1, small_fits field.d a.y b.x field.radicand.greatest s.1 t.0, small_cross_fits)
 
   pub small_dot : (before : ℕ) → dot_after before field.d a b ≡ Ok (dot field.d a b)
   small_dot before =
-      dot_fits before field.d a b (field_fits field a.x b.x s.0 t.0, field_fits field a.y b.y s.1 t.1, small_dot_fits)
+      dot_fits before field.d a b (small_fits field.d a.x b.x field.radicand.greatest s.0 t.0, small_fits field.d a.y b.y field.radicand.greatest s.1 t.1, small_dot_fits)

@@ -8,21 +8,21 @@ use Rattle.fs_plane.specs.Vector.{cross, dot}
 use Rattle.fs_plane.specs.Checked.{◌>>=◌, checked_product, checked_sum, checked_difference}
 
 -- a.x·b.y - a.y·b.x
-abbrev pub cross_after : ℕ → ℕ → V2 → V2 → Result Quadratic Place
+unfoldable pub cross_after : ℕ → ℕ → V2 → V2 → Result Quadratic Place
 cross_after before d a b = do
   left ← checked_product d (before + 1) a.x b.y
   right ← checked_product d (before + 2) a.y b.x
   checked_difference (before + 3) left right
 
 -- a.x·b.x + a.y·b.y
-abbrev pub dot_after : ℕ → ℕ → V2 → V2 → Result Quadratic Place
+unfoldable pub dot_after : ℕ → ℕ → V2 → V2 → Result Quadratic Place
 dot_after before d a b = do
   left ← checked_product d (before + 1) a.x b.x
   right ← checked_product d (before + 2) a.y b.y
   checked_sum (before + 3) left right
 
 -- a.x·a.x + a.y·a.y
-abbrev pub norm_after : ℕ → ℕ → V2 → Result Quadratic Place
+unfoldable pub norm_after : ℕ → ℕ → V2 → Result Quadratic Place
 norm_after before d a = dot_after before d a a
 
 -- all numbers of the cross product are within the width

@@ -20,6 +20,7 @@ pub fn cross(field: Field, a: V2, b: V2) -> Result<Elem, Place>
 }
 
 // The same for vectors of any size.
+#[tactic(auto, unfolding(crate::specs::Formulas::cross_after))]
 fn cross_checked(field: Field, a: V2, b: V2) -> Result<Elem, Place>
     ensures { result ≡ cross_after 0 field.d a b }
 {
@@ -41,6 +42,7 @@ pub fn dot(field: Field, a: V2, b: V2) -> Result<Elem, Place>
 }
 
 // The same for vectors of any size.
+#[tactic(auto, unfolding(crate::specs::Formulas::dot_after))]
 fn dot_checked(field: Field, a: V2, b: V2) -> Result<Elem, Place>
     ensures { result ≡ dot_after 0 field.d a b }
 {
@@ -50,6 +52,7 @@ fn dot_checked(field: Field, a: V2, b: V2) -> Result<Elem, Place>
 }
 
 /// The squared length, which is the dot product of a with itself, and has its places.
+#[tactic(auto, unfolding(crate::specs::Formulas::norm_after))]
 pub fn norm(field: Field, a: V2) -> Result<Elem, Place>
     ensures { result ≡ norm_after 0 field.d a }
 {

@@ -54,6 +54,7 @@ step_q d k m next a below n b r e g =
 -- times next + √d it is what the next step has, times -a
 step_product : (d k m next a below n b r : ℕ) → k * a ≡ m + next → a * below + next * next ≡ d → n ≡ k * b + r
     → mul d (excess m a n b) (above_root next) ≡ neg (mul d (whole_number a) (excess next below b r))
+unfolding mul
 step_product d k m next a below n b r e f g =
     quadratic_eq
     (step_p (pos d) (pos k) (pos m) (pos next) (pos a) (pos below) (pos n) (pos b) (pos r) (ap pos e) (ap pos f) (ap pos g))
@@ -133,14 +134,16 @@ module _ {d : ℕ} (no_square : IsNoSquare d) where
 
   -- n/b is at least (m + s)/a, for an s above √d
   pub sign-excess_greater : (m a n b t s : ℕ) → 0 < b → 0 < s → d < s * s → n * a ≡ (s + m) * b + t → sign d (excess m a n b) ≡ Greater
+  unfolding mul
   sign-excess_greater m a n b t s h k high e =
-      ap (sign d) (quadratic_eq (greater_p (pos d) (pos m) (pos a) (pos n) (pos b) (pos t) (pos s) (ap pos e)) (greater_q (pos b) (pos s)))
+      ap (sign d) (quadratic_eq {x = excess m a n b} {y = add (mul d (whole_number b) (above s)) (whole_number t)} (greater_p (pos d) (pos m) (pos a) (pos n) (pos b) (pos t) (pos s) (ap pos e)) (greater_q (pos b) (pos s)))
       ∙ sign-positive d (add (mul d (whole_number b) (above s)) (whole_number t)) (positive_sum (mul d (whole_number b) (above s)) t (multiple_positive b (above s) h (above_positive d s k high)))
 
   -- n/b is at most (m + s)/a, for an s below √d
   pub sign-excess_less : (m a n b t s : ℕ) → 0 < b → s * s < d → (s + m) * b ≡ n * a + t → sign d (excess m a n b) ≡ Less
+  unfolding mul
   sign-excess_less m a n b t s h low e =
       sign-negative d (excess m a n b)
       (subst (IsPositive d)
-      (quadratic_eq (less_p (pos d) (pos m) (pos a) (pos n) (pos b) (pos t) (pos s) (ap pos e)) (less_q (pos b) (pos s)))
+      (quadratic_eq {x = add (mul d (whole_number b) (below s)) (whole_number t)} {y = neg (excess m a n b)} (less_p (pos d) (pos m) (pos a) (pos n) (pos b) (pos t) (pos s) (ap pos e)) (less_q (pos b) (pos s)))
       (positive_sum (mul d (whole_number b) (below s)) t (multiple_positive b (below s) h (below_positive d s low))))

@@ -12,13 +12,18 @@ use Rattle.fs_ring.proofs.Integers.{integer_ring, integer_order, less-is, non_ne
 use Rattle.fs_ring.proofs.Solver.{expressions as E, numeral}
 use Rattle.fs_ring.proofs.PlaneSolver.{vector_identity, ◌≐ᵥ◌}
 use Rattle.fs_quadratic.specs.Radicand.{IsRadicand, IsNoSquare}
-use Rattle.fs_quadratic.specs.Ring.{Quadratic, zero as nil, quadratic, IsPositive, both, by_p, by_q}
+use Rattle.fs_quadratic.specs.Ring.{Quadratic, zero as nil, rational_part, root_part, mul, quadratic, IsPositive, both, by_p, by_q}
 use Rattle.fs_quadratic.proofs.NormForm as form
 use Rattle.fs_quadratic.proofs.NormForm.{norm_form, IsAbove, p_leads, q_leads}
 use Rattle.fs_quadratic.proofs.SquareRoot.{irrational, radicand_no_square}
 
 pub quadratic_eq : {x y : Quadratic} → x.p ≡ y.p → x.q ≡ y.q → x ≡ y
 quadratic_eq e f = λ i. record { p = e i; q = f i }
+
+-- the product by its parts
+pub mul-is : (d : ℕ) (x y : Quadratic) → mul d x y ≡ record { p = rational_part d x y; q = root_part x y }
+unfolding mul
+mul-is d x y = refl
 
 -- ---- the laws of the product, over pairs of elements of any ring
 
@@ -32,6 +37,7 @@ abbrev number : Vector ℤ → Quadratic
 number v = record { p = v.x; q = v.y }
 
 pub quadratic_ring : (d : ℕ) → IsCommutativeRing (quadratic d)
+unfolding mul
 quadratic_ring d = record {
   add_assoc = λ x y z. quadratic_eq (integer_ring.add_assoc x.p y.p z.p) (integer_ring.add_assoc x.q y.q z.q);
   add_comm = λ x y. quadratic_eq (integer_ring.add_comm x.p y.p) (integer_ring.add_comm x.q y.q);
@@ -77,6 +83,7 @@ quadratic_sign {d} no_square x =
 
 -- p + q·√d is an ordered ring where d isn't a square
 pub quadratic_order : {d : ℕ} → IsNoSquare d → IsOrderedRing (quadratic d) (IsPositive d)
+unfolding mul
 quadratic_order {d} no_square = record {
   ring = quadratic_ring d;
   one_positive = both (omega (arith, ints)) (omega (arith, ints)) (λ zeros. signs.positive-ne-zero integer_order integer_order.one_positive zeros.0);

@@ -4,8 +4,8 @@ use Rattle.std.proofs.lemmas.Int.{ints, unsigned_abs-mul}
 use Rattle.std.proofs.Math.Nat.{mul-le-mul}
 use Rattle.std.specs.Prelude.{unsigned_abs}
 use Rattle.fs_quadratic.specs.declared.radicand.Field.{Field}
-use Rattle.fs_quadratic.specs.Ring.{Quadratic, add, sub, mul}
-use Rattle.fs_quadratic.specs.Width.{InWidth, Fits, MulFits, IsSmall}
+use Rattle.fs_quadratic.specs.Ring.{Quadratic, rational_part, root_part, add, sub, mul}
+use Rattle.fs_quadratic.specs.Width.{InWidth, Fits, RationalPartFits, RootPartFits, MulFits, IsSmall}
 use Rattle.fs_quadratic.proofs.Bits.{within_of_abs}
 
 abs_add : (y z : ℤ) → unsigned_abs (y +ℤ z) ≤ unsigned_abs y + unsigned_abs z
@@ -38,6 +38,7 @@ sum_small y z m n h k = let s = abs_add y z in omega arith
 
 -- no number of the product of two small numbers leaves the width
 pub small_fits : (d : ℕ) (x y : Quadratic) → d ≤ 999 → IsSmall x → IsSmall y → MulFits d x y
+unfolding MulFits
 small_fits d x y h s t =
     let pp = product_small x.p y.p s.0 t.0 in
     let qq = product_small x.q y.q s.1 t.1 in
@@ -47,17 +48,18 @@ small_fits d x y h s t =
       (
         within (x.p *ℤ y.p) greatest pp (omega arith),
         (within (x.q *ℤ y.q) greatest qq (omega arith), within (pos d *ℤ (x.q *ℤ y.q)) (999 * greatest) dqq (omega arith)),
-        within (mul d x y).p (greatest + 999 * greatest) (sum_small (x.p *ℤ y.p) (pos d *ℤ (x.q *ℤ y.q)) greatest (999 * greatest) pp dqq) (omega arith),
+        within (rational_part d x y) (greatest + 999 * greatest) (sum_small (x.p *ℤ y.p) (pos d *ℤ (x.q *ℤ y.q)) greatest (999 * greatest) pp dqq) (omega arith),
       ),
       (
         within (x.p *ℤ y.q) greatest pq (omega arith),
         within (x.q *ℤ y.p) greatest qp (omega arith),
-        within (mul d x y).q (greatest + greatest) (sum_small (x.p *ℤ y.q) (x.q *ℤ y.p) greatest greatest pq qp) (omega arith),
+        within (root_part x y) (greatest + greatest) (sum_small (x.p *ℤ y.q) (x.q *ℤ y.p) greatest greatest pq qp) (omega arith),
       ),
     )
 
--- the same, for a field
-pub field_fits : (field : Field) (x y : Quadratic) → IsSmall x → IsSmall y → MulFits field.d x y
+-- the same, for a field, by its parts
+pub field_fits : (field : Field) (x y : Quadratic) → IsSmall x → IsSmall y → RationalPartFits field.d x y × RootPartFits x y
+unfolding MulFits
 field_fits field x y s t = small_fits field.d x y field.radicand.greatest s t
 
 -- ---- the sum and the difference of two products of small numbers fit
@@ -68,11 +70,13 @@ greatest_part = greatest + 999 * greatest
 
 module _ (d : ℕ) (x y : Quadratic) (h : d ≤ 999) (s : IsSmall x) (t : IsSmall y) where
   part_p : unsigned_abs (mul d x y).p ≤ greatest_part
+  unfolding mul
   part_p =
       sum_small (x.p *ℤ y.p) (pos d *ℤ (x.q *ℤ y.q)) greatest (999 * greatest) (product_small x.p y.p s.0 t.0)
       (multiple_small d (x.q *ℤ y.q) h (product_small x.q y.q s.1 t.1))
 
   part_q : unsigned_abs (mul d x y).q ≤ greatest_part
+  unfolding mul
   part_q = let sum = sum_small (x.p *ℤ y.q) (x.q *ℤ y.p) greatest greatest (product_small x.p y.q s.0 t.1) (product_small x.q y.p s.1 t.0) in omega arith
 
 abs_sub : (y z : ℤ) → unsigned_abs (y -ℤ z) ≤ unsigned_abs y + unsigned_abs z

@@ -28,9 +28,16 @@ neg x = record { p = neg_ℤ x.p; q = neg_ℤ x.q }
 abbrev pub one : Quadratic
 one = record { p = pos 1; q = pos 0 }
 
--- the product, in which √d·√d is d
-abbrev pub mul : ℕ → Quadratic → Quadratic → Quadratic
-mul d x y = record { p = x.p *ℤ y.p +ℤ pos d *ℤ (x.q *ℤ y.q); q = x.p *ℤ y.q +ℤ x.q *ℤ y.p }
+-- the parts of a product, in which √d·√d is d
+abbrev pub rational_part : ℕ → Quadratic → Quadratic → ℤ
+rational_part d x y = x.p *ℤ y.p +ℤ pos d *ℤ (x.q *ℤ y.q)
+
+abbrev pub root_part : Quadratic → Quadratic → ℤ
+root_part x y = x.p *ℤ y.q +ℤ x.q *ℤ y.p
+
+-- the product
+unfoldable pub mul : ℕ → Quadratic → Quadratic → Quadratic
+mul d x y = record { p = rational_part d x y; q = root_part x y }
 
 -- these numbers as a ring
 abbrev pub quadratic : ℕ → Operations Quadratic

@@ -1,7 +1,7 @@
 ghost use Rattle.std.specs.Prelude.{◌≡◌, pos, ◌*ℤ◌, IfErr};
 ghost use Rattle.std.specs.Option.{SomeIff};
 ghost use Rattle.std.specs.Result.{OkIff};
-ghost use Rattle.fs_quadratic.specs.Ring.{mul};
+ghost use Rattle.fs_quadratic.specs.Ring.{mul, rational_part, root_part};
 ghost use Rattle.fs_quadratic.specs.Width.{InWidth, MultipleFits, RationalPartFits, RootPartFits, MulFits, IsSmall};
 
 use crate::element::{Elem, Op, checked_sum};
@@ -10,6 +10,7 @@ use crate::radicand::Field;
 impl Field {
     /// The exact product, or `Op::Mul` exactly where a part of it leaves the width, or one of
     /// the products on the way: of a part with a part, and of d with the product of the parts q.
+    #[tactic(auto, unfolding(crate::specs::Width::MulFits, crate::specs::Ring::mul))]
     pub fn mul(self, x: Elem, y: Elem) -> Result<Elem, Op>
         ensures product { OkIff result (MulFits self.d x y) (mul self.d x y) }
         ensures refused { IfErr result (λ e. e ≡ Op.Mul) }
@@ -17,7 +18,7 @@ impl Field {
         if x.is_small() && y.is_small() {
             return Ok(self.mul_small(x, y));
         }
-        match (rational_part(self.d, x, y), root_part(self.d, x, y)) {
+        match (rational_part(self.d, x, y), root_part(x, y)) {
             (Some(p), Some(q)) => Ok(Elem::new(p, q)),
             _ => Err(Op::Mul),
         }
@@ -38,7 +39,7 @@ impl Field {
 
 // The part p of the product.
 fn rational_part(d: u16, x: Elem, y: Elem) -> Option<i128>
-    ensures { SomeIff result (RationalPartFits d x y) ((mul d x y).p) }
+    ensures { SomeIff result (RationalPartFits d x y) (rational_part d x y) }
 {
     match (
         checked_product(x.p(), y.p()),
@@ -49,9 +50,9 @@ fn rational_part(d: u16, x: Elem, y: Elem) -> Option<i128>
     }
 }
 
-// The part q of the product, for any d.
-fn root_part(d: u16, x: Elem, y: Elem) -> Option<i128>
-    ensures { SomeIff result (RootPartFits d x y) ((mul d x y).q) }
+// The part q of the product.
+fn root_part(x: Elem, y: Elem) -> Option<i128>
+    ensures { SomeIff result (RootPartFits x y) (root_part x y) }
 {
     match (checked_product(x.p(), y.q()), checked_product(x.q(), y.p())) {
         (Some(left), Some(right)) => checked_sum(left, right),
