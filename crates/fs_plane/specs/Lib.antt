@@ -1,1 +1,3 @@
 pub mod Vector
+pub mod Checked
+pub mod Formulas

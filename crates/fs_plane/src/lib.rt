@@ -2,9 +2,13 @@
 #![tactic(auto)]
 
 mod corners;
+mod formulas;
 mod sites;
+#[cfg(test)]
+mod tests;
 mod vector;
 
 pub use corners::Corner;
+pub use formulas::{cross, dot, norm};
 pub use sites::{Place, Site, Stop};
 pub use vector::V2;

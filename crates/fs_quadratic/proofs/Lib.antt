@@ -1,1 +1,13 @@
 pub mod Firsts
+pub mod NormForm
+pub mod SquareRoot
+pub mod Laws
+pub mod Signs
+pub mod Parts
+pub mod Bits
+pub mod Small
+pub mod Quotients
+pub mod Excess
+pub mod RootOrder
+pub mod Comparison
+pub mod WidthTests

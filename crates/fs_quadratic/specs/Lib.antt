@@ -2,3 +2,4 @@ pub mod First
 pub mod Ring
 pub mod Width
 pub mod Radicand
+pub mod Quotient

@@ -1,8 +1,8 @@
-ghost use Rattle.std.specs.Prelude.{◌≡◌, ◌+ℤ◌, ◌-ℤ◌, IfErr};
+ghost use Rattle.std.specs.Prelude.{◌≡◌, ◌+ℤ◌, ◌-ℤ◌, ◌↔◌, IfErr, IsTrue};
 ghost use Rattle.std.specs.Option.{SomeIff};
 ghost use Rattle.std.specs.Result.{OkIff};
 ghost use Rattle.fs_quadratic.specs.Ring.{Quadratic, add, sub, neg};
-ghost use Rattle.fs_quadratic.specs.Width.{InWidth, Fits};
+ghost use Rattle.fs_quadratic.specs.Width.{InWidth, Fits, IsSmall};
 
 use std::marker::Model;
 
@@ -37,6 +37,9 @@ pub enum Op {
     Mul,
 }
 
+// Small parts are below it in size.
+const SMALL: u128 = 1 << 58;
+
 impl Elem {
     /// 0.
     pub const ZERO: Elem = Elem { p: 0, q: 0 };
@@ -64,6 +67,13 @@ impl Elem {
         ensures within { InWidth self.q }
     {
         self.q
+    }
+
+    /// Whether both parts are below 2^58 in size. Products of small numbers need no checks.
+    pub fn is_small(self) -> bool
+        ensures { IsTrue result ↔ IsSmall self }
+    {
+        self.p.unsigned_abs() < SMALL && self.q.unsigned_abs() < SMALL
     }
 
     /// The exact sum, or `Op::Add` exactly where one of its parts leaves the width.
@@ -103,7 +113,7 @@ impl Elem {
 }
 
 // The sum, where it is within the width.
-fn checked_sum(a: i128, b: i128) -> Option<i128>
+pub(crate) fn checked_sum(a: i128, b: i128) -> Option<i128>
     ensures { SomeIff result (InWidth (a +ℤ b)) (a +ℤ b) }
 {
     match a.checked_add(b) {

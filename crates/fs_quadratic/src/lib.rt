@@ -2,7 +2,12 @@
 #![tactic(auto)]
 
 mod element;
+mod order;
+mod product;
+mod quotient;
 mod radicand;
+#[cfg(test)]
+mod tests;
 
 pub use element::{Elem, Op};
 pub use radicand::{BadField, Field};

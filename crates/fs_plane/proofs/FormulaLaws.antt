@@ -1,0 +1,72 @@
+-- Laws of the formulas: they give the values of the plane exactly where all numbers fit, and else the first place where one doesn't.
+use Rattle.std.proofs.Common.{◌≡◌, ℕ, Ok, Err, ◌↔◌}
+use Rattle.std.proofs.lemmas.Result.{OkIff-at_ok, Ok-from_Ok_iff}
+use Rattle.std.specs.Result.{OkIff}
+use Rattle.fs_quadratic.specs.Ring.{Quadratic, add, sub, mul}
+use Rattle.fs_quadratic.specs.Width.{Fits, MulFits, is_fitting, is_fitting_mul}
+use Rattle.fs_quadratic.proofs.WidthTests.{Decides-is_fitting, Decides-is_fitting_mul}
+use Rattle.fs_plane.specs.declared.sites.Place.{Place}
+use Rattle.fs_plane.specs.declared.vector.V2.{V2}
+use Rattle.fs_plane.specs.Vector.{cross, dot, norm}
+use Rattle.fs_plane.specs.Checked.{shifted, IsFirstOfThree}
+use Rattle.fs_plane.specs.Formulas.{cross_after, dot_after, norm_after, CrossFits, DotFits}
+use Rattle.fs_plane.proofs.Steps.{chain_ok, chain_stops, chain-shifted}
+
+module _ (before d : ℕ) (a b : V2) where
+  -- ---- the cross product
+
+  pub cross_ok : OkIff (cross_after before d a b) (CrossFits d a b) (cross d a b)
+  cross_ok =
+      chain_ok before (mul d a.x b.y) (mul d a.y b.x) (λ x y. is_fitting (sub x y)) sub (is_fitting_mul d a.x b.y) (is_fitting_mul d a.y b.x)
+      (Decides-is_fitting_mul d a.x b.y) (Decides-is_fitting_mul d a.y b.x) (Decides-is_fitting (cross d a b))
+
+  pub cross_stops : (stop : Place) → cross_after before d a b ≡ Err stop ↔ IsFirstOfThree (MulFits d a.x b.y) (MulFits d a.y b.x) (Fits (cross d a b)) before stop
+  cross_stops stop =
+      chain_stops before (mul d a.x b.y) (mul d a.y b.x) (λ x y. is_fitting (sub x y)) sub (is_fitting_mul d a.x b.y) (is_fitting_mul d a.y b.x) stop
+      (Decides-is_fitting_mul d a.x b.y) (Decides-is_fitting_mul d a.y b.x) (Decides-is_fitting (cross d a b))
+
+  -- what it gives is the cross product
+  pub cross_value : (value : Quadratic) → cross_after before d a b ≡ Ok value → value ≡ cross d a b
+  cross_value value e = (OkIff-at_ok (cross_after before d a b) (CrossFits d a b) (cross d a b) value cross_ok e).1
+
+  pub cross_fits : CrossFits d a b → cross_after before d a b ≡ Ok (cross d a b)
+  cross_fits h = Ok-from_Ok_iff (cross_after before d a b) (CrossFits d a b) (cross d a b) cross_ok h
+
+  -- ---- the dot product
+
+  pub dot_ok : OkIff (dot_after before d a b) (DotFits d a b) (dot d a b)
+  dot_ok =
+      chain_ok before (mul d a.x b.x) (mul d a.y b.y) (λ x y. is_fitting (add x y)) add (is_fitting_mul d a.x b.x) (is_fitting_mul d a.y b.y)
+      (Decides-is_fitting_mul d a.x b.x) (Decides-is_fitting_mul d a.y b.y) (Decides-is_fitting (dot d a b))
+
+  pub dot_stops : (stop : Place) → dot_after before d a b ≡ Err stop ↔ IsFirstOfThree (MulFits d a.x b.x) (MulFits d a.y b.y) (Fits (dot d a b)) before stop
+  dot_stops stop =
+      chain_stops before (mul d a.x b.x) (mul d a.y b.y) (λ x y. is_fitting (add x y)) add (is_fitting_mul d a.x b.x) (is_fitting_mul d a.y b.y) stop
+      (Decides-is_fitting_mul d a.x b.x) (Decides-is_fitting_mul d a.y b.y) (Decides-is_fitting (dot d a b))
+
+  pub dot_value : (value : Quadratic) → dot_after before d a b ≡ Ok value → value ≡ dot d a b
+  dot_value value e = (OkIff-at_ok (dot_after before d a b) (DotFits d a b) (dot d a b) value dot_ok e).1
+
+  pub dot_fits : DotFits d a b → dot_after before d a b ≡ Ok (dot d a b)
+  dot_fits h = Ok-from_Ok_iff (dot_after before d a b) (DotFits d a b) (dot d a b) dot_ok h
+
+-- ---- the squared length
+
+pub norm_value : (before d : ℕ) (a : V2) (value : Quadratic) → norm_after before d a ≡ Ok value → value ≡ norm d a
+norm_value before d a value e = dot_value before d a a value e
+
+pub norm_fits : (before d : ℕ) (a : V2) → DotFits d a a → norm_after before d a ≡ Ok (norm d a)
+norm_fits before d a h = dot_fits before d a a h
+
+-- ---- after other steps the places are counted on
+
+pub cross_after-shifted : (before d : ℕ) (a b : V2) → cross_after before d a b ≡ shifted before (cross_after 0 d a b)
+cross_after-shifted before d a b =
+    chain-shifted before (mul d a.x b.y) (mul d a.y b.x) (λ x y. is_fitting (sub x y)) sub (is_fitting_mul d a.x b.y) (is_fitting_mul d a.y b.x)
+
+pub dot_after-shifted : (before d : ℕ) (a b : V2) → dot_after before d a b ≡ shifted before (dot_after 0 d a b)
+dot_after-shifted before d a b =
+    chain-shifted before (mul d a.x b.x) (mul d a.y b.y) (λ x y. is_fitting (add x y)) add (is_fitting_mul d a.x b.x) (is_fitting_mul d a.y b.y)
+
+pub norm_after-shifted : (before d : ℕ) (a : V2) → norm_after before d a ≡ shifted before (norm_after 0 d a)
+norm_after-shifted before d a = dot_after-shifted before d a a

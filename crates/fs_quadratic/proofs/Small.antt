@@ -1,0 +1,61 @@
+-- Numbers with small parts have products within the width.
+use Rattle.std.proofs.Common.{ℕ, ◌+◌, ◌-◌, ◌*◌, ◌^◌, ◌<◌, ◌≤◌, ℤ, pos, negsuc, ◌+ℤ◌, ◌*ℤ◌, arith, sym, subst}
+use Rattle.std.proofs.lemmas.Int.{ints, unsigned_abs-mul}
+use Rattle.std.proofs.Math.Nat.{mul-le-mul}
+use Rattle.std.specs.Prelude.{unsigned_abs}
+use Rattle.fs_quadratic.specs.declared.radicand.Field.{Field}
+use Rattle.fs_quadratic.specs.Ring.{Quadratic, mul}
+use Rattle.fs_quadratic.specs.Width.{InWidth, MulFits, IsSmall}
+use Rattle.fs_quadratic.proofs.Bits.{within_of_abs}
+
+abs_add : (y z : ℤ) → unsigned_abs (y +ℤ z) ≤ unsigned_abs y + unsigned_abs z
+abs_add (pos m) (pos n) = omega (arith, ints)
+abs_add (pos m) (negsuc n) = omega (arith, ints)
+abs_add (negsuc m) (pos n) = omega (arith, ints)
+abs_add (negsuc m) (negsuc n) = omega (arith, ints)
+
+abs_mul : (y z : ℤ) (m n : ℕ) → unsigned_abs y ≤ m → unsigned_abs z ≤ n → unsigned_abs (y *ℤ z) ≤ m * n
+abs_mul y z m n h k = subst (λ v. v ≤ m * n) (sym (unsigned_abs-mul y z)) (mul-le-mul h k)
+
+below : (m n : ℕ) → m ≤ n → n < 2 ^ 127 → m < 2 ^ 127
+below m n h k = omega arith
+
+within : (z : ℤ) (m : ℕ) → unsigned_abs z ≤ m → m < 2 ^ 127 → InWidth z
+within z m h k = within_of_abs z (below (unsigned_abs z) m h k)
+
+-- the greatest product of two small parts
+abbrev greatest : ℕ
+greatest = (2 ^ 58 - 1) * (2 ^ 58 - 1)
+
+product_small : (y z : ℤ) → unsigned_abs y < 2 ^ 58 → unsigned_abs z < 2 ^ 58 → unsigned_abs (y *ℤ z) ≤ greatest
+product_small y z h k = abs_mul y z (2 ^ 58 - 1) (2 ^ 58 - 1) (omega arith) (omega arith)
+
+multiple_small : (d : ℕ) (z : ℤ) → d ≤ 999 → unsigned_abs z ≤ greatest → unsigned_abs (pos d *ℤ z) ≤ 999 * greatest
+multiple_small d z h k = abs_mul (pos d) z 999 greatest h k
+
+sum_small : (y z : ℤ) (m n : ℕ) → unsigned_abs y ≤ m → unsigned_abs z ≤ n → unsigned_abs (y +ℤ z) ≤ m + n
+sum_small y z m n h k = let s = abs_add y z in omega arith
+
+-- no number of the product of two small numbers leaves the width
+pub small_fits : (d : ℕ) (x y : Quadratic) → d ≤ 999 → IsSmall x → IsSmall y → MulFits d x y
+small_fits d x y h s t =
+    let pp = product_small x.p y.p s.0 t.0 in
+    let qq = product_small x.q y.q s.1 t.1 in
+    let pq = product_small x.p y.q s.0 t.1 in
+    let qp = product_small x.q y.p s.1 t.0 in
+    let dqq = multiple_small d (x.q *ℤ y.q) h qq in (
+      (
+        within (x.p *ℤ y.p) greatest pp (omega arith),
+        (within (x.q *ℤ y.q) greatest qq (omega arith), within (pos d *ℤ (x.q *ℤ y.q)) (999 * greatest) dqq (omega arith)),
+        within (mul d x y).p (greatest + 999 * greatest) (sum_small (x.p *ℤ y.p) (pos d *ℤ (x.q *ℤ y.q)) greatest (999 * greatest) pp dqq) (omega arith),
+      ),
+      (
+        within (x.p *ℤ y.q) greatest pq (omega arith),
+        within (x.q *ℤ y.p) greatest qp (omega arith),
+        within (mul d x y).q (greatest + greatest) (sum_small (x.p *ℤ y.q) (x.q *ℤ y.p) greatest greatest pq qp) (omega arith),
+      ),
+    )
+
+-- the same, for a field
+pub field_fits : (field : Field) (x y : Quadratic) → IsSmall x → IsSmall y → MulFits field.d x y
+field_fits field x y s t = small_fits field.d x y field.radicand.greatest s t

@@ -1,0 +1,5 @@
+use Rattle.fs_quadratic.proofs.quotient.CompleteQuotient.+compare_fraction.Given as goal
+
+-- the denominator
+abbrev pub decreases-compare_fraction : goal.decreases-compare_fraction
+decreases-compare_fraction l = l.b

@@ -1,0 +1,12 @@
+pub mod RingLaws
+pub mod Polynomial
+pub mod Solver
+pub mod Signs
+pub mod Order
+pub mod AbsoluteValue
+pub mod PlaneSolver
+pub mod Plane
+pub mod Directions
+pub mod HalfPlanes
+pub mod Hinges
+pub mod Integers

@@ -1,0 +1,6 @@
+pub mod Operations
+pub mod CommutativeRing
+pub mod OrderedRing
+pub mod Vector
+pub mod Direction
+pub mod Integers
