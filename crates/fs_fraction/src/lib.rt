@@ -1,0 +1,10 @@
+// Fractions of the numbers p + q·√d, exact and in lowest terms.
+#![tactic(auto)]
+
+mod arithmetic;
+mod divisor;
+mod fraction;
+mod width;
+
+pub use arithmetic::{add, mul, sub};
+pub use fraction::{Frac, FracStop, NoMemory};
