@@ -74,11 +74,11 @@ lowest-neg num den l = record {
   reduced = λ k hp hq hd. l.reduced k (subst (λ n. k ∣ n) (size-negated num.p) hp) (subst (λ n. k ∣ n) (size-negated num.q) hq) hd;
 }
 
-zero_or_positive : (n : ℕ) → (n ≡ 0) ⊎ (0 < n)
+pub zero_or_positive : (n : ℕ) → (n ≡ 0) ⊎ (0 < n)
 zero_or_positive zero = inl refl
 zero_or_positive (suc n) = inr (omega arith)
 
-zero_size : (z : ℤ) → unsigned_abs z ≡ 0 → z ≡ pos 0
+pub zero_size : (z : ℤ) → unsigned_abs z ≡ 0 → z ≡ pos 0
 zero_size (pos n) e = ap pos e
 zero_size (negsuc n) e = absurd (omega arith)
 
@@ -93,7 +93,7 @@ content_positive x other =
       | inr up ↦ gcd_positive (unsigned_abs x.p) (unsigned_abs x.q) up
     ]
 
-size_within : (z : ℤ) → InWidth z → unsigned_abs z < 2 ^ 127
+pub size_within : (z : ℤ) → InWidth z → unsigned_abs z < 2 ^ 127
 size_within (pos n) h = let low = h.0 in let high = h.1 in omega (arith, ints)
 size_within (negsuc n) h = let low = h.0 in let high = h.1 in omega (arith, ints)
 

@@ -95,3 +95,13 @@ reciprocal d x = reduced (with_sign (norm d (primitive x.num)) (conjugate (inver
 -- the numbers by which it is computed are within the width
 abbrev pub ReciprocalFits : ℕ → Fraction → Type 0
 ReciprocalFits d x = NormFits d (primitive x.num) × Fits (inverse_num x) × InWidth (pos (inverse_den d x))
+
+-- ---- quotients
+
+-- x times one over y
+abbrev pub quotient : ℕ → Fraction → Fraction → Fraction
+quotient d x y = product d x (reciprocal d y)
+
+-- the numbers by which both are computed are within the width
+abbrev pub QuotientFits : ℕ → Fraction → Fraction → Type 0
+QuotientFits d x y = ReciprocalFits d y × ProductFits d x (reciprocal d y)

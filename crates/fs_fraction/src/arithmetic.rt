@@ -1,7 +1,7 @@
 ghost use Rattle.std.specs.Prelude.{◌≡◌, ◌≢◌};
 ghost use Rattle.std.specs.Result.{OkIff};
 ghost use Rattle.fs_quadratic.specs.Ring.{zero};
-ghost use Rattle.fs_fraction.specs.Arithmetic.{negated, sum, SumFits, product, ProductFits, reciprocal, ReciprocalFits};
+ghost use Rattle.fs_fraction.specs.Arithmetic.{negated, sum, SumFits, product, ProductFits, conjugate, with_sign, reciprocal, ReciprocalFits, quotient, QuotientFits};
 
 use crate::divisor::greatest_divisor;
 use crate::fraction::{Frac, FracStop, content, divide, in_lowest_terms};
@@ -52,4 +52,54 @@ pub fn mul(field: Field, x: Frac, y: Frac) -> Result<Frac, FracStop>
         (Ok(num), Some(den)) => Ok(in_lowest_terms(num, den)),
         _ => Err(FracStop::Overflow),
     }
+}
+
+/// One over x, which isn't 0, or `Overflow` exactly where a number on the way leaves the width.
+/// The numerator is first divided by what its parts have in common.
+pub fn inv(field: Field, x: Frac) -> Result<Frac, FracStop>
+    requires { x.num ≢ zero }
+    ensures { OkIff result (ReciprocalFits field.d x) (reciprocal field.d x) }
+{
+    let m = x.size();
+    let common = content(x.num());
+    let inner = greatest_divisor(m, common);
+    let primitive = divide(x.num(), common);
+    match (
+        checked_norm(field, primitive),
+        checked_scale(m / inner, primitive),
+    ) {
+        (Some(norm), Some(num)) => {
+            match checked_size(common / inner, norm.unsigned_abs()) {
+                Some(den) => Ok(in_lowest_terms(with_sign(norm, conjugate(num)), den)),
+                None => Err(FracStop::Overflow),
+            }
+        }
+        _ => Err(FracStop::Overflow),
+    }
+}
+
+/// x times the inverse of y, which isn't 0, or `Overflow` exactly where the inverse or that
+/// product leaves the width.
+pub fn div(field: Field, x: Frac, y: Frac) -> Result<Frac, FracStop>
+    requires { y.num ≢ zero }
+    ensures { OkIff result (QuotientFits field.d x y) (quotient field.d x y) }
+{
+    match inv(field, y) {
+        Ok(inverse) => mul(field, x, inverse),
+        Err(stop) => Err(stop),
+    }
+}
+
+// p - q·√d.
+fn conjugate(x: Elem) -> Elem
+    ensures { result ≡ conjugate x }
+{
+    Elem::new(x.p(), -x.q())
+}
+
+// x, with both signs turned where z is below 0.
+fn with_sign(z: i128, x: Elem) -> Elem
+    ensures { result ≡ with_sign z x }
+{
+    if z < 0 { x.neg() } else { x }
 }

@@ -6,5 +6,5 @@ mod divisor;
 mod fraction;
 mod width;
 
-pub use arithmetic::{add, mul, sub};
+pub use arithmetic::{add, div, inv, mul, sub};
 pub use fraction::{Frac, FracStop, NoMemory};
