@@ -4,6 +4,8 @@
 mod arithmetic;
 mod divisor;
 mod fraction;
+#[cfg(test)]
+mod tests;
 mod width;
 
 pub use arithmetic::{add, div, inv, mul, sub};
