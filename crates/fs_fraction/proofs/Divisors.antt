@@ -1,7 +1,7 @@
 -- Euclid's remainders end at the greatest common divisor.
-use Rattle.std.proofs.Common.{◌≡◌, ℕ, ◌+◌, ◌*◌, ◌/◌, ◌%◌, ◌<◌, ◌≤◌, zero, suc, refl, sym, ◌∙◌, ap, subst, arith}
+use Rattle.std.proofs.Common.{◌≡◌, ℕ, ◌*◌, ◌/◌, ◌%◌, ◌<◌, ◌≤◌, zero, suc, refl, subst, arith}
 use Rattle.std.proofs.Math.Nat.{mod-lt, mul-pos, div-mul_cancel, mul-dvd-mul_right, eq-zero_of_zero-dvd}
-use Rattle.std.proofs.lemmas.Nat.Gcd.{IsGcd-from_zero, IsGcd-from_mod, dvd_trans, le_of_dvd, dvd-zero}
+use Rattle.std.proofs.lemmas.Nat.Gcd.{IsGcd-from_zero, IsGcd-from_mod, dvd_trans, le_of_dvd}
 use Rattle.std.specs.Int.{IsGcd, ◌∣◌}
 use Rattle.fs_fraction.specs.Divisor.{gcd_within, gcd}
 

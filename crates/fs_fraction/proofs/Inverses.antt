@@ -1,12 +1,11 @@
 -- The steps of an inverse add up to it, and its denominator is above 0.
-use Rattle.std.proofs.Common.{◌≡◌, ◌≢◌, ◌⊎◌, inl, inr, ℕ, ℤ, pos, negsuc, zero, suc, ◌-ℤ◌, ◌*ℤ◌, ◌*◌, ◌/◌, ◌<◌, Result, Ok, Err, refl, sym, ◌∙◌, ap, subst, arith}
+use Rattle.std.proofs.Common.{◌≡◌, ◌≢◌, inl, inr, ℕ, ℤ, pos, ◌-ℤ◌, ◌*ℤ◌, ◌*◌, ◌/◌, ◌<◌, Result, Ok, Err, sym, ◌∙◌, ap, subst, arith}
 use Rattle.std.proofs.Math.Nat.{mul-pos}
 use Rattle.std.proofs.lemmas.Int.{ints, to_z-of_z, fits_signed_from_abs}
 use mir.Syntax.{w128}
 use mir.Val.{to_z, of_z}
 use Rattle.std.specs.Prelude.{unsigned_abs, int_div}
 use Rattle.std.specs.Result.{OkIff}
-use Rattle.std.specs.Int.{◌∣◌}
 use Rattle.fs_quadratic.specs.Radicand.{IsNoSquare}
 use Rattle.fs_quadratic.specs.Ring.{Quadratic, zero as nil}
 use Rattle.fs_quadratic.specs.Width.{InWidth, Fits}
@@ -43,11 +42,12 @@ inverse_answer d x common within least num n size den e_common e_within e_least 
     let num_eq : scale (x.den / within) least ≡ inverse_num x = ap (λ (j : ℕ). scale (x.den / j) least) within_is ∙ ap (scale (x.den / inner x)) least_is in
     let num_is : num ≡ inverse_num x = k.1 ∙ num_eq in
     let den_eq : (common / within) * size ≡ inverse_den d x = inverse_den-is d x common within least n size e_common e_within e_least h.1 e_size in
-    let den_is : den ≡ inverse_den d x = l.1 ∙ den_eq in
-    ((subst (NormFits d) least_is h.0, subst Fits num_eq k.0, subst (λ (j : ℕ). InWidth (pos j)) den_eq l.0),
-     e ∙ (ap (λ (j : ℤ). reduced (with_sign j (conjugate num)) den) n_is
-       ∙ (ap (λ (j : Quadratic). reduced (with_sign (norm d (primitive x.num)) (conjugate j)) den) num_is
-       ∙ ap (λ (j : ℕ). reduced (with_sign (norm d (primitive x.num)) (conjugate (inverse_num x))) j) den_is)))
+    let den_is : den ≡ inverse_den d x = l.1 ∙ den_eq in (
+      (subst (NormFits d) least_is h.0, subst Fits num_eq k.0, subst (λ (j : ℕ). InWidth (pos j)) den_eq l.0),
+      e ∙ (ap (λ (j : ℤ). reduced (with_sign j (conjugate num)) den) n_is
+          ∙ (ap (λ (j : Quadratic). reduced (with_sign (norm d (primitive x.num)) (conjugate j)) den) num_is
+          ∙ ap (λ (j : ℕ). reduced (with_sign (norm d (primitive x.num)) (conjugate (inverse_num x))) j) den_is)),
+    )
 
 difference-zero : (a b : ℤ) → a -ℤ b ≡ pos 0 → a ≡ b
 difference-zero a b e = omega (arith, ints)
@@ -60,10 +60,10 @@ pub norm_positive : {d : ℕ} → IsNoSquare d → (x : Quadratic) → x ≢ nil
 norm_positive {d} no_square x other =
     elim (zero_or_positive (unsigned_abs (norm d (primitive x)))) [
       | inl e ↦
-        let y = primitive x in
-        let null : y ≡ nil = zero_of_squares no_square y (difference-zero (y.p *ℤ y.p) (pos d *ℤ (y.q *ℤ y.q)) (zero_size (norm d y) e)) in
-        let common = gcd-is (unsigned_abs x.p) (unsigned_abs x.q) in
-        absurd (other (quadratic_eq
+          let y = primitive x in
+          let null : y ≡ nil = zero_of_squares no_square y (difference-zero (y.p *ℤ y.p) (pos d *ℤ (y.q *ℤ y.q)) (zero_size (norm d y) e)) in
+          let common = gcd-is (unsigned_abs x.p) (unsigned_abs x.q) in
+          absurd (other (quadratic_eq
           (times-zero (content x) (int_div x.p (pos (content x))) x.p (quotient_times x.p (content x) common.0) (ap (λ (z : Quadratic). z.p) null))
           (times-zero (content x) (int_div x.q (pos (content x))) x.q (quotient_times x.q (content x) common.1) (ap (λ (z : Quadratic). z.q) null))))
       | inr up ↦ up

@@ -1,5 +1,5 @@
 -- Division by the greatest common divisor gives lowest terms and keeps the value.
-use Rattle.std.proofs.Common.{◌≡◌, ◌≢◌, ◌⊎◌, inl, inr, ℕ, ℤ, pos, negsuc, neg_ℤ, ◌*ℤ◌, ◌*◌, ◌/◌, ◌<◌, ◌≤◌, ◌^◌, zero, suc, [], ◌∷◌, refl, sym, ◌∙◌, ap, subst, arith}
+use Rattle.std.proofs.Common.{◌≡◌, ◌≢◌, ◌⊎◌, inl, inr, ℕ, ℤ, pos, negsuc, neg_ℤ, ◌*ℤ◌, ◌*◌, ◌/◌, ◌<◌, ◌^◌, zero, suc, [], ◌∷◌, refl, ◌∙◌, ap, subst, arith}
 use Rattle.std.proofs.Math.Nat.{mul-div_cancel', div-le_self}
 use Rattle.std.proofs.lemmas.Int.{ints}
 use Rattle.std.specs.Prelude.{unsigned_abs, int_div}
@@ -7,10 +7,10 @@ use Rattle.std.specs.Int.{◌∣◌}
 use Rattle.fs_quadratic.specs.Ring.{Quadratic, neg, zero as nil}
 use Rattle.fs_quadratic.specs.Width.{InWidth, Fits}
 use Rattle.fs_quadratic.proofs.Laws.{quadratic_eq}
-use Rattle.fs_ring.proofs.Integers.{integer_ring, mul_assoc}
+use Rattle.fs_ring.proofs.Integers.{integer_ring}
 use Rattle.fs_ring.proofs.Solver.{identity, negative, ◌⊗◌, ◌≐◌}
-use Rattle.fs_fraction.specs.Divisor.{gcd, content, divide}
-use Rattle.fs_fraction.specs.Fraction.{Fraction, IsLowest, HasValue, reduced, scale}
+use Rattle.fs_fraction.specs.Divisor.{gcd, content}
+use Rattle.fs_fraction.specs.Fraction.{IsLowest, HasValue, reduced}
 use Rattle.fs_fraction.proofs.Divisors.{first_multiple, second_multiple, third_multiple, gcd_positive, gcd_at_most, gcd_positive_first, gcd_at_most_first, quotient_positive, quotients_coprime}
 
 size-neg : (n : ℕ) → unsigned_abs (neg_ℤ (pos n)) ≡ n

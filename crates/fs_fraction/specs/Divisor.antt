@@ -1,5 +1,5 @@
 -- Greatest common divisors.
-use Rattle.std.specs.Prelude.{ℕ, ℤ, zero, suc, ◌%◌, pos, unsigned_abs, int_div}
+use Rattle.std.specs.Prelude.{ℕ, zero, suc, ◌%◌, pos, unsigned_abs, int_div}
 use Rattle.fs_quadratic.specs.Ring.{Quadratic}
 
 -- Euclid's remainders, at most so many

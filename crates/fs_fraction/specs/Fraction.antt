@@ -1,5 +1,5 @@
 -- Fractions: a number p + q·√d over a natural number above 0.
-use Rattle.std.specs.Prelude.{◌≡◌, ℕ, ◌<◌, ◌≤◌, ◌-◌, ◌*◌, ◌/◌, ◌^◌, pos, ◌*ℤ◌, unsigned_abs}
+use Rattle.std.specs.Prelude.{◌≡◌, ℕ, ◌<◌, ◌/◌, ◌^◌, pos, ◌*ℤ◌, unsigned_abs}
 use Rattle.std.specs.Int.{◌∣◌}
 use Rattle.fs_quadratic.specs.Ring.{Quadratic}
 use Rattle.fs_fraction.specs.Divisor.{gcd, content, divide}

@@ -27,7 +27,7 @@ pub struct Frac {
 
 impl Model for Frac {
     ghost use Rattle.fs_fraction.specs.Divisor.{content, divide};
-ghost use Rattle.fs_fraction.specs.Fraction.{Fraction, IsLowest};
+    ghost use Rattle.fs_fraction.specs.Fraction.{Fraction, IsLowest};
 
     ghost Value = { Fraction };
 

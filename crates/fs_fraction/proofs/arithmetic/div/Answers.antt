@@ -1,7 +1,7 @@
 use Rattle.std.proofs.Common.{subst}
 use Rattle.std.specs.Result.{OkIff}
 use Rattle.fs_fraction.specs.Fraction.{Fraction}
-use Rattle.fs_fraction.specs.Arithmetic.{product, ProductFits, reciprocal, ReciprocalFits}
+use Rattle.fs_fraction.specs.Arithmetic.{product, ProductFits, ReciprocalFits}
 use Rattle.fs_fraction.proofs.Inverses.{ok_and}
 use Rattle.fs_fraction.proofs.arithmetic.div.Goals as goal
 

@@ -1,5 +1,4 @@
-use Rattle.std.proofs.Common.{◌≡◌, sym, subst, rules, ◌<◌, ◌^◌, ℕ}
-use Rattle.std.specs.Prelude.{unsigned_abs}
+use Rattle.std.proofs.Common.{◌≡◌, sym, subst, rules, ◌<◌, ℕ}
 use Rattle.fs_fraction.specs.Divisor.{content}
 use Rattle.fs_fraction.proofs.Lowest.{content_positive, content_within}
 use Rattle.fs_fraction.proofs.fraction.content.Goals as goal
