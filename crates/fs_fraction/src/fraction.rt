@@ -8,10 +8,6 @@ use crate::divisor::greatest_divisor;
 use fs_quadratic::Elem;
 use std::marker::Model;
 
-/// There is no memory left for the answer.
-#[derive(Clone, Copy, Debug, PartialEq, Eq)]
-pub struct NoMemory;
-
 /// Why two fractions have no answer.
 #[derive(Clone, Copy, Debug, PartialEq, Eq)]
 pub enum FracStop {

@@ -9,4 +9,4 @@ mod tests;
 mod width;
 
 pub use arithmetic::{add, div, inv, mul, sub};
-pub use fraction::{Frac, FracStop, NoMemory};
+pub use fraction::{Frac, FracStop};
