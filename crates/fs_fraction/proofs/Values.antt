@@ -1,5 +1,5 @@
 -- Fractions and the numbers that they stand for: equal values are one fraction, and sums and products are those of the values.
-use Rattle.std.proofs.Common.{◌≡◌, ◌≢◌, ℕ, ℤ, pos, neg_ℤ, ◌+ℤ◌, ◌-ℤ◌, ◌*ℤ◌, ◌+◌, ◌*◌, ◌/◌, ◌%◌, ◌<◌, ◌≤◌, ◌^◌, zero, suc, [], ◌∷◌, refl, sym, ◌∙◌, ap, subst, arith}
+use Rattle.std.proofs.Common.{◌≡◌, ◌≢◌, ℕ, ℤ, pos, negsuc, neg_ℤ, ◌+ℤ◌, ◌-ℤ◌, ◌*ℤ◌, ◌+◌, ◌*◌, ◌/◌, ◌%◌, ◌<◌, ◌≤◌, ◌^◌, zero, suc, [], ◌∷◌, refl, sym, ◌∙◌, ap, subst, arith}
 use Rattle.std.proofs.Math.Nat.{mod-lt, mul-pos, mul-lt-mul_of_pos_left, mul-add-mod_self_left, mod-eq_of_lt, mul-zero, dvd-mul_right, mul-div_cancel'}
 use Rattle.std.proofs.lemmas.Nat.Gcd.{IsGcd-from_zero, IsGcd-from_mod, same_from_IsGcd, dvd_antisymm}
 use Rattle.std.proofs.lemmas.Int.{ints, unsigned_abs-mul}
@@ -9,13 +9,14 @@ use Rattle.fs_ring.proofs.Integers.{integer_ring, integer_order}
 use Rattle.fs_ring.proofs.Signs.{mul_left_cancel}
 use Rattle.fs_ring.proofs.Solver.{identity, numeral, negative, ◌⊗◌, ◌⊕◌, ◌≐◌}
 use Rattle.fs_quadratic.specs.Radicand.{IsNoSquare}
-use Rattle.fs_quadratic.specs.Ring.{Quadratic, add, sub, neg, mul, sign, compare, IsPositive, both}
+use Rattle.fs_quadratic.specs.Ring.{Quadratic, add, sub, neg, mul, sign, compare, zero as nil, one, IsPositive, both}
 use Rattle.fs_quadratic.proofs.Excess.{sign-positive_mul}
 use Rattle.fs_quadratic.proofs.Laws.{quadratic_eq}
 use Rattle.fs_fraction.specs.Divisor.{gcd_within, gcd, content, divide}
 use Rattle.fs_fraction.specs.Fraction.{Fraction, IsLowest, HasValue, reduced, scale}
-use Rattle.fs_fraction.specs.Arithmetic.{negated, sum, product, shared, rest_num, rest_den, left_num, right_num, common_den}
-use Rattle.fs_fraction.proofs.Divisors.{gcd-is, first_multiple, second_multiple, third_multiple, greatest}
+use Rattle.fs_fraction.specs.Arithmetic.{negated, sum, product, shared, rest_num, rest_den, left_num, right_num, common_den, conjugate, norm, with_sign, primitive, inner, inverse_num, inverse_den, reciprocal}
+use Rattle.fs_fraction.proofs.Inverses.{inverse_den_positive}
+use Rattle.fs_fraction.proofs.Divisors.{gcd-is, quotient_positive, multiple_positive, first_multiple, second_multiple, third_multiple, greatest}
 use Rattle.fs_fraction.proofs.Lowest.{reduced-value, reduced-lowest, quotient_times}
 
 -- ---- common divisors of multiples
@@ -188,8 +189,78 @@ less z m w = ap (λ (v : ℤ). z +ℤ v) (identity integer_ring (m ∷ w ∷ [])
 crosswise : (m n : ℕ) (x y : Quadratic) → add (scale n x) (scale m (neg y)) ≡ sub (scale n x) (scale m y)
 crosswise m n x y = quadratic_eq (less (pos n *ℤ x.p) (pos m) y.p) (less (pos n *ℤ x.q) (pos m) y.q)
 
+reduced_den-positive : (num : Quadratic) (den : ℕ) → 0 < den → 0 < (reduced num den).den
+reduced_den-positive num den up = quotient_positive (gcd (content num) den) den (third_multiple (unsigned_abs num.p) (unsigned_abs num.q) den) up
+
 -- the difference has the sign by which the fractions compare crosswise
-pub difference-sign : {d : ℕ} → IsNoSquare d → (x y : Fraction) → IsLowest x.num x.den → IsLowest y.num y.den → 0 < (sum x (negated y)).den → sign d (sum x (negated y)).num ≡ compare d (scale y.den x.num) (scale x.den y.num)
-difference-sign {d} no_square x y lx ly up =
+pub difference-sign : {d : ℕ} → IsNoSquare d → (x y : Fraction) → IsLowest x.num x.den → IsLowest y.num y.den → sign d (sum x (negated y)).num ≡ compare d (scale y.den x.num) (scale x.den y.num)
+difference-sign {d} no_square x y lx ly =
+    let up = reduced_den-positive (add (left_num x (negated y)) (right_num x (negated y))) (common_den x (negated y)) (multiple_positive x.den y.den lx.positive ly.positive) in
     value-sign no_square (sum x (negated y)) (add (scale y.den x.num) (scale x.den (neg y.num))) (x.den * y.den) up (mul-pos lx.positive ly.positive) (sum-value x (negated y))
     ∙ ap (sign d) (crosswise x.den y.den x.num y.num)
+
+-- ---- inverses
+
+-- 1 with the sign of a number
+unit_of : ℤ → ℤ
+unit_of (pos n) = pos 1
+unit_of (negsuc n) = negsuc 0
+
+unit-times : (e : ℤ) → unit_of e *ℤ e ≡ pos (unsigned_abs e)
+unfolding unit_of
+unit-times (pos n) = identity integer_ring (pos n ∷ []) (λ n. numeral 1 ⊗ n ≐ n) refl
+unit-times (negsuc n) = identity integer_ring (pos (suc n) ∷ []) (λ n. negative (numeral 1) ⊗ negative n ≐ n) refl
+
+with_sign-is : (e : ℤ) (y : Quadratic) → with_sign e y ≡ record { p = unit_of e *ℤ y.p; q = unit_of e *ℤ y.q }
+unfolding unit_of
+with_sign-is (pos n) y = quadratic_eq (identity integer_ring (y.p ∷ []) (λ z. z ≐ numeral 1 ⊗ z) refl) (identity integer_ring (y.q ∷ []) (λ z. z ≐ numeral 1 ⊗ z) refl)
+with_sign-is (negsuc n) y = quadratic_eq (identity integer_ring (y.p ∷ []) (λ z. negative z ≐ negative (numeral 1) ⊗ z) refl) (identity integer_ring (y.q ∷ []) (λ z. negative z ≐ negative (numeral 1) ⊗ z) refl)
+
+inverse_p : (d c k vp vq rp rq rd s m : ℤ) → k *ℤ rp ≡ rd *ℤ (s *ℤ (m *ℤ vp)) → k *ℤ rq ≡ rd *ℤ (s *ℤ neg_ℤ (m *ℤ vq))
+    → k *ℤ ((c *ℤ vp) *ℤ rp +ℤ d *ℤ ((c *ℤ vq) *ℤ rq)) ≡ (c *ℤ (m *ℤ rd)) *ℤ (s *ℤ (vp *ℤ vp +ℤ neg_ℤ (d *ℤ (vq *ℤ vq))))
+inverse_p d c k vp vq rp rq rd s m hp hq =
+    identity integer_ring (d ∷ c ∷ k ∷ vp ∷ vq ∷ rp ∷ rq ∷ []) (λ d c k v w r t. k ⊗ (((c ⊗ v) ⊗ r) ⊕ (d ⊗ ((c ⊗ w) ⊗ t))) ≐ ((c ⊗ v) ⊗ (k ⊗ r)) ⊕ (d ⊗ ((c ⊗ w) ⊗ (k ⊗ t)))) refl
+    ∙ (ap (λ (z : ℤ). (c *ℤ vp) *ℤ z +ℤ d *ℤ ((c *ℤ vq) *ℤ (k *ℤ rq))) hp
+    ∙ (ap (λ (z : ℤ). (c *ℤ vp) *ℤ (rd *ℤ (s *ℤ (m *ℤ vp))) +ℤ d *ℤ ((c *ℤ vq) *ℤ z)) hq
+    ∙ identity integer_ring (d ∷ c ∷ vp ∷ vq ∷ rd ∷ s ∷ m ∷ []) (λ d c v w r s m. ((c ⊗ v) ⊗ (r ⊗ (s ⊗ (m ⊗ v)))) ⊕ (d ⊗ ((c ⊗ w) ⊗ (r ⊗ (s ⊗ negative (m ⊗ w))))) ≐ (c ⊗ (m ⊗ r)) ⊗ (s ⊗ ((v ⊗ v) ⊕ negative (d ⊗ (w ⊗ w))))) refl))
+
+inverse_q : (c k vp vq rp rq rd s m : ℤ) → k *ℤ rp ≡ rd *ℤ (s *ℤ (m *ℤ vp)) → k *ℤ rq ≡ rd *ℤ (s *ℤ neg_ℤ (m *ℤ vq)) → k *ℤ ((c *ℤ vp) *ℤ rq +ℤ (c *ℤ vq) *ℤ rp) ≡ pos 0
+inverse_q c k vp vq rp rq rd s m hp hq =
+    identity integer_ring (c ∷ k ∷ vp ∷ vq ∷ rp ∷ rq ∷ []) (λ c k v w r t. k ⊗ (((c ⊗ v) ⊗ t) ⊕ ((c ⊗ w) ⊗ r)) ≐ ((c ⊗ v) ⊗ (k ⊗ t)) ⊕ ((c ⊗ w) ⊗ (k ⊗ r))) refl
+    ∙ (ap (λ (z : ℤ). (c *ℤ vp) *ℤ z +ℤ (c *ℤ vq) *ℤ (k *ℤ rp)) hq
+    ∙ (ap (λ (z : ℤ). (c *ℤ vp) *ℤ (rd *ℤ (s *ℤ neg_ℤ (m *ℤ vq))) +ℤ (c *ℤ vq) *ℤ z) hp
+    ∙ identity integer_ring (c ∷ vp ∷ vq ∷ rd ∷ s ∷ m ∷ []) (λ c v w r s m. ((c ⊗ v) ⊗ (r ⊗ (s ⊗ negative (m ⊗ w)))) ⊕ ((c ⊗ w) ⊗ (r ⊗ (s ⊗ (m ⊗ v)))) ≐ numeral 0) refl))
+
+content-times : (x : Quadratic) → scale (content x) (primitive x) ≡ x
+content-times x =
+    let common = gcd-is (unsigned_abs x.p) (unsigned_abs x.q) in
+    quadratic_eq (quotient_times x.p (content x) common.0) (quotient_times x.q (content x) common.1)
+
+-- a fraction times its inverse is 1: the product of the numerators is that of the denominators
+pub reciprocal-value : {d : ℕ} → IsNoSquare d → (x : Fraction) → x.num ≢ nil → mul d x.num (reciprocal d x).num ≡ scale (x.den * (reciprocal d x).den) one
+reciprocal-value {d} no_square x other =
+    let c = content x.num in
+    let h = inner x in
+    let v = primitive x.num in
+    let m = x.den / h in
+    let e = norm d v in
+    let s = unit_of e in
+    let k = inverse_den d x in
+    let r = reciprocal d x in
+    let up = inverse_den_positive no_square x other in
+    let value : scale k r.num ≡ scale r.den (record { p = s *ℤ (pos m *ℤ v.p); q = s *ℤ neg_ℤ (pos m *ℤ v.q) }) =
+        reduced-value (with_sign e (conjugate (inverse_num x))) k ∙ ap (scale r.den) (with_sign-is e (conjugate (inverse_num x))) in
+    let size : s *ℤ (v.p *ℤ v.p +ℤ neg_ℤ (pos d *ℤ (v.q *ℤ v.q))) ≡ pos (unsigned_abs e) = ap (λ (z : ℤ). s *ℤ z) (plus-neg (v.p *ℤ v.p) (pos d *ℤ (v.q *ℤ v.q))) ∙ unit-times e in
+    let outer : h * m ≡ x.den = mul-div_cancel' h ((gcd-is x.den c).0) in
+    let within : h * (c / h) ≡ c = mul-div_cancel' h ((gcd-is x.den c).1) in
+    let p = inverse_p (pos d) (pos c) (pos k) v.p v.q r.num.p r.num.q (pos r.den) s (pos m) (ap (λ (z : Quadratic). z.p) value) (ap (λ (z : Quadratic). z.q) value) in
+    let q = inverse_q (pos c) (pos k) v.p v.q r.num.p r.num.q (pos r.den) s (pos m) (ap (λ (z : Quadratic). z.p) value) (ap (λ (z : Quadratic). z.q) value) in
+    let right : pos (c * (m * r.den)) *ℤ pos (unsigned_abs e) ≡ pos k *ℤ (pos (x.den * r.den) *ℤ pos 1) =
+        ap (λ (n : ℕ). pos (n * (m * r.den)) *ℤ pos (unsigned_abs e)) (sym within)
+        ∙ (identity integer_ring (pos h ∷ pos (c / h) ∷ pos m ∷ pos r.den ∷ pos (unsigned_abs e) ∷ []) (λ h u m r e. ((h ⊗ u) ⊗ (m ⊗ r)) ⊗ e ≐ (u ⊗ e) ⊗ (((h ⊗ m) ⊗ r) ⊗ numeral 1)) refl
+        ∙ ap (λ (n : ℕ). pos k *ℤ (pos (n * r.den) *ℤ pos 1)) outer) in
+    let both : mul d (scale c v) r.num ≡ scale (x.den * r.den) one =
+        quadratic_eq
+        (cancel k _ _ up (p ∙ (ap (λ (z : ℤ). pos (c * (m * r.den)) *ℤ z) size ∙ right)))
+        (cancel k _ _ up (q ∙ identity integer_ring (pos k ∷ pos (x.den * r.den) ∷ []) (λ k n. numeral 0 ≐ k ⊗ (n ⊗ numeral 0)) refl)) in
+    subst (λ (z : Quadratic). mul d z r.num ≡ scale (x.den * r.den) one) (content-times x.num) both
