@@ -3,7 +3,7 @@ use Rattle.std.proofs.Common.{◌≡◌, ◌≢◌, ℕ, ℤ, pos, negsuc, neg_�
 use Rattle.std.proofs.Math.Nat.{mod-lt, mul-pos, mul-lt-mul_of_pos_left, mul-add-mod_self_left, mod-eq_of_lt, mul-zero, dvd-mul_right, mul-div_cancel'}
 use Rattle.std.proofs.lemmas.Nat.Gcd.{IsGcd-from_zero, IsGcd-from_mod, same_from_IsGcd, dvd_antisymm}
 use Rattle.std.proofs.lemmas.Int.{ints, unsigned_abs-mul}
-use Rattle.std.specs.Prelude.{unsigned_abs, int_div}
+use Rattle.std.specs.Prelude.{unsigned_abs}
 use Rattle.std.specs.Int.{IsGcd, ◌∣◌}
 use Rattle.fs_ring.proofs.Integers.{integer_ring, integer_order}
 use Rattle.fs_ring.proofs.Signs.{mul_left_cancel}
@@ -60,7 +60,7 @@ den_divides num den n l up hp hq =
     let a = unsigned_abs num.p in
     let b = unsigned_abs num.q in
     let whole : gcd (gcd (n * a) (n * b)) (n * den) ≡ n =
-        ap (λ j. gcd j (n * den)) (gcd-scale n a b up) ∙ (gcd-scale n (gcd a b) den up ∙ (ap (λ j. n * j) (lowest-gcd num den l) ∙ omega arith)) in
+    ap (λ j. gcd j (n * den)) (gcd-scale n a b up) ∙ (gcd-scale n (gcd a b) den up ∙ (ap (λ j. n * j) (lowest-gcd num den l) ∙ omega arith)) in
     subst (λ j. den ∣ j) whole (greatest (n * a) (n * b) (n * den) den hp hq (subst (λ j. den ∣ j) (omega arith) (dvd-mul_right den n)))
 
 -- m·z ≡ n·w: m divides n times the size of w
@@ -83,17 +83,17 @@ equal_fractions x y lx ly e =
     let back : x.den ∣ y.den = den_divides x.num x.den y.den lx ly.positive (size_divides x.den y.den y.num.p x.num.p (sym p)) (size_divides x.den y.den y.num.q x.num.q (sym q)) in
     let same : x.den ≡ y.den = dvd_antisymm back there in
     fraction_eq (quadratic_eq
-      (cancel y.den x.num.p y.num.p ly.positive (p ∙ ap (λ (n : ℕ). pos n *ℤ y.num.p) same))
-      (cancel y.den x.num.q y.num.q ly.positive (q ∙ ap (λ (n : ℕ). pos n *ℤ y.num.q) same))) same
+    (cancel y.den x.num.p y.num.p ly.positive (p ∙ ap (λ (n : ℕ). pos n *ℤ y.num.p) same))
+    (cancel y.den x.num.q y.num.q ly.positive (q ∙ ap (λ (n : ℕ). pos n *ℤ y.num.q) same))) same
 
 across : (x : Fraction) (den : ℕ) (z r rd : ℤ) (f : ℤ) → 0 < den → pos den *ℤ r ≡ rd *ℤ z → pos den *ℤ f ≡ pos x.den *ℤ z → rd *ℤ f ≡ pos x.den *ℤ r
 across x den z r rd f up hr hf =
     cancel den (rd *ℤ f) (pos x.den *ℤ r) up
     (identity integer_ring (pos den ∷ rd ∷ f ∷ []) (λ n d f. n ⊗ (d ⊗ f) ≐ d ⊗ (n ⊗ f)) refl
-      ∙ (ap (λ (w : ℤ). rd *ℤ w) hf
-      ∙ (identity integer_ring (rd ∷ pos x.den ∷ z ∷ []) (λ d m z. d ⊗ (m ⊗ z) ≐ m ⊗ (d ⊗ z)) refl
-      ∙ (ap (λ (w : ℤ). pos x.den *ℤ w) (sym hr)
-      ∙ identity integer_ring (pos x.den ∷ pos den ∷ r ∷ []) (λ m n r. m ⊗ (n ⊗ r) ≐ n ⊗ (m ⊗ r)) refl))))
+    ∙ (ap (λ (w : ℤ). rd *ℤ w) hf
+    ∙ (identity integer_ring (rd ∷ pos x.den ∷ z ∷ []) (λ d m z. d ⊗ (m ⊗ z) ≐ m ⊗ (d ⊗ z)) refl
+    ∙ (ap (λ (w : ℤ). pos x.den *ℤ w) (sym hr)
+    ∙ identity integer_ring (pos x.den ∷ pos den ∷ r ∷ []) (λ m n r. m ⊗ (n ⊗ r) ≐ n ⊗ (m ⊗ r)) refl))))
 
 -- a fraction in lowest terms that stands for num/den is that number reduced
 pub reduced-unique : (x : Fraction) (num : Quadratic) (den : ℕ) → IsLowest x.num x.den → 0 < den → den < 2 ^ 127 → HasValue x num den → x ≡ reduced num den
@@ -102,8 +102,8 @@ reduced-unique x num den l up within h =
     let v = reduced-value num den in
     equal_fractions x r l (reduced-lowest num den up within)
     (quadratic_eq
-      (across x den num.p r.num.p (pos r.den) x.num.p up (ap (λ (z : Quadratic). z.p) v) (ap (λ (z : Quadratic). z.p) h))
-      (across x den num.q r.num.q (pos r.den) x.num.q up (ap (λ (z : Quadratic). z.q) v) (ap (λ (z : Quadratic). z.q) h)))
+    (across x den num.p r.num.p (pos r.den) x.num.p up (ap (λ (z : Quadratic). z.p) v) (ap (λ (z : Quadratic). z.p) h))
+    (across x den num.q r.num.q (pos r.den) x.num.q up (ap (λ (z : Quadratic). z.q) v) (ap (λ (z : Quadratic). z.q) h)))
 
 -- ---- sums
 
@@ -136,11 +136,11 @@ product_parts d u w m n a b r h =
     let before = λ (z : ℤ). identity integer_ring (pos w ∷ pos m ∷ pos u ∷ pos n ∷ z ∷ []) (λ w m u n z. ((w ⊗ m) ⊗ (u ⊗ n)) ⊗ z ≐ (w ⊗ u) ⊗ ((m ⊗ n) ⊗ z)) refl in
     quadratic_eq
     (before r.num.p ∙ (ap (λ (z : Quadratic). pos (w * u) *ℤ z.p) h
-      ∙ identity integer_ring (pos w ∷ pos u ∷ pos r.den ∷ pos d ∷ a.p ∷ a.q ∷ b.p ∷ b.q ∷ [])
-        (λ w u k d p q s t. (w ⊗ u) ⊗ (k ⊗ ((p ⊗ s) ⊕ (d ⊗ (q ⊗ t)))) ≐ k ⊗ (((u ⊗ p) ⊗ (w ⊗ s)) ⊕ (d ⊗ ((u ⊗ q) ⊗ (w ⊗ t))))) refl))
+    ∙ identity integer_ring (pos w ∷ pos u ∷ pos r.den ∷ pos d ∷ a.p ∷ a.q ∷ b.p ∷ b.q ∷ [])
+    (λ w u k d p q s t. (w ⊗ u) ⊗ (k ⊗ ((p ⊗ s) ⊕ (d ⊗ (q ⊗ t)))) ≐ k ⊗ (((u ⊗ p) ⊗ (w ⊗ s)) ⊕ (d ⊗ ((u ⊗ q) ⊗ (w ⊗ t))))) refl))
     (before r.num.q ∙ (ap (λ (z : Quadratic). pos (w * u) *ℤ z.q) h
-      ∙ identity integer_ring (pos w ∷ pos u ∷ pos r.den ∷ a.p ∷ a.q ∷ b.p ∷ b.q ∷ [])
-        (λ w u k p q s t. (w ⊗ u) ⊗ (k ⊗ ((p ⊗ t) ⊕ (q ⊗ s))) ≐ k ⊗ (((u ⊗ p) ⊗ (w ⊗ t)) ⊕ ((u ⊗ q) ⊗ (w ⊗ s)))) refl))
+    ∙ identity integer_ring (pos w ∷ pos u ∷ pos r.den ∷ a.p ∷ a.q ∷ b.p ∷ b.q ∷ [])
+    (λ w u k p q s t. (w ⊗ u) ⊗ (k ⊗ ((p ⊗ t) ⊕ (q ⊗ s))) ≐ k ⊗ (((u ⊗ p) ⊗ (w ⊗ t)) ⊕ ((u ⊗ q) ⊗ (w ⊗ s)))) refl))
 
 -- a number divided by a divisor of both parts, times it
 pub divide-times : (x : Quadratic) (n : ℕ) → scale (gcd (content x) n) (divide x (gcd (content x) n)) ≡ x
@@ -170,9 +170,9 @@ sign-scale {d} no_square k x up =
     let whole : Quadratic = record { p = pos k; q = pos 0 } in
     let positive : IsPositive d whole = both (omega (arith, ints)) (omega (arith, ints)) (λ zeros. let none = zeros.0 in absurd (omega (arith, ints))) in
     let times : mul d whole x ≡ scale k x =
-        quadratic_eq
-        (identity integer_ring (pos k ∷ pos d ∷ x.p ∷ x.q ∷ []) (λ k d p q. (k ⊗ p) ⊕ (d ⊗ (numeral 0 ⊗ q)) ≐ k ⊗ p) refl)
-        (identity integer_ring (pos k ∷ x.p ∷ x.q ∷ []) (λ k p q. (k ⊗ q) ⊕ (numeral 0 ⊗ p) ≐ k ⊗ q) refl) in
+    quadratic_eq
+    (identity integer_ring (pos k ∷ pos d ∷ x.p ∷ x.q ∷ []) (λ k d p q. (k ⊗ p) ⊕ (d ⊗ (numeral 0 ⊗ q)) ≐ k ⊗ p) refl)
+    (identity integer_ring (pos k ∷ x.p ∷ x.q ∷ []) (λ k p q. (k ⊗ q) ⊕ (numeral 0 ⊗ p) ≐ k ⊗ q) refl) in
     ap (sign d) (sym times) ∙ sign-positive_mul no_square whole x positive
 
 -- a fraction has the sign of each numerator that it stands for
@@ -249,18 +249,18 @@ reciprocal-value {d} no_square x other =
     let r = reciprocal d x in
     let up = inverse_den_positive no_square x other in
     let value : scale k r.num ≡ scale r.den (record { p = s *ℤ (pos m *ℤ v.p); q = s *ℤ neg_ℤ (pos m *ℤ v.q) }) =
-        reduced-value (with_sign e (conjugate (inverse_num x))) k ∙ ap (scale r.den) (with_sign-is e (conjugate (inverse_num x))) in
+    reduced-value (with_sign e (conjugate (inverse_num x))) k ∙ ap (scale r.den) (with_sign-is e (conjugate (inverse_num x))) in
     let size : s *ℤ (v.p *ℤ v.p +ℤ neg_ℤ (pos d *ℤ (v.q *ℤ v.q))) ≡ pos (unsigned_abs e) = ap (λ (z : ℤ). s *ℤ z) (plus-neg (v.p *ℤ v.p) (pos d *ℤ (v.q *ℤ v.q))) ∙ unit-times e in
     let outer : h * m ≡ x.den = mul-div_cancel' h ((gcd-is x.den c).0) in
     let within : h * (c / h) ≡ c = mul-div_cancel' h ((gcd-is x.den c).1) in
     let p = inverse_p (pos d) (pos c) (pos k) v.p v.q r.num.p r.num.q (pos r.den) s (pos m) (ap (λ (z : Quadratic). z.p) value) (ap (λ (z : Quadratic). z.q) value) in
     let q = inverse_q (pos c) (pos k) v.p v.q r.num.p r.num.q (pos r.den) s (pos m) (ap (λ (z : Quadratic). z.p) value) (ap (λ (z : Quadratic). z.q) value) in
     let right : pos (c * (m * r.den)) *ℤ pos (unsigned_abs e) ≡ pos k *ℤ (pos (x.den * r.den) *ℤ pos 1) =
-        ap (λ (n : ℕ). pos (n * (m * r.den)) *ℤ pos (unsigned_abs e)) (sym within)
-        ∙ (identity integer_ring (pos h ∷ pos (c / h) ∷ pos m ∷ pos r.den ∷ pos (unsigned_abs e) ∷ []) (λ h u m r e. ((h ⊗ u) ⊗ (m ⊗ r)) ⊗ e ≐ (u ⊗ e) ⊗ (((h ⊗ m) ⊗ r) ⊗ numeral 1)) refl
-        ∙ ap (λ (n : ℕ). pos k *ℤ (pos (n * r.den) *ℤ pos 1)) outer) in
+    ap (λ (n : ℕ). pos (n * (m * r.den)) *ℤ pos (unsigned_abs e)) (sym within)
+    ∙ (identity integer_ring (pos h ∷ pos (c / h) ∷ pos m ∷ pos r.den ∷ pos (unsigned_abs e) ∷ []) (λ h u m r e. ((h ⊗ u) ⊗ (m ⊗ r)) ⊗ e ≐ (u ⊗ e) ⊗ (((h ⊗ m) ⊗ r) ⊗ numeral 1)) refl
+    ∙ ap (λ (n : ℕ). pos k *ℤ (pos (n * r.den) *ℤ pos 1)) outer) in
     let both : mul d (scale c v) r.num ≡ scale (x.den * r.den) one =
-        quadratic_eq
-        (cancel k _ _ up (p ∙ (ap (λ (z : ℤ). pos (c * (m * r.den)) *ℤ z) size ∙ right)))
-        (cancel k _ _ up (q ∙ identity integer_ring (pos k ∷ pos (x.den * r.den) ∷ []) (λ k n. numeral 0 ≐ k ⊗ (n ⊗ numeral 0)) refl)) in
+    quadratic_eq
+    (cancel k _ _ up (p ∙ (ap (λ (z : ℤ). pos (c * (m * r.den)) *ℤ z) size ∙ right)))
+    (cancel k _ _ up (q ∙ identity integer_ring (pos k ∷ pos (x.den * r.den) ∷ []) (λ k n. numeral 0 ≐ k ⊗ (n ⊗ numeral 0)) refl)) in
     subst (λ (z : Quadratic). mul d z r.num ≡ scale (x.den * r.den) one) (content-times x.num) both
