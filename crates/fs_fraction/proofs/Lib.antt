@@ -1,3 +1,4 @@
 pub mod Divisors
 pub mod Lowest
 pub mod Inverses
+pub mod Values
