@@ -9,6 +9,7 @@ use Rattle.fs_ring.proofs.Integers.{integer_ring, integer_order}
 use Rattle.fs_ring.proofs.Signs.{mul_left_cancel}
 use Rattle.fs_ring.proofs.Solver.{identity, numeral, negative, ◌⊗◌, ◌⊕◌, ◌≐◌}
 use Rattle.fs_quadratic.specs.Radicand.{IsNoSquare}
+use Rattle.fs_quadratic.proofs.Signs.{compare-is}
 use Rattle.fs_quadratic.specs.Ring.{Quadratic, add, sub, neg, mul, sign, compare, zero as nil, one, IsPositive, both}
 use Rattle.fs_quadratic.proofs.Excess.{sign-positive_mul}
 use Rattle.fs_quadratic.proofs.Laws.{quadratic_eq}
@@ -132,6 +133,7 @@ sum-value x y =
 
 -- both numerators times what they were divided by
 product_parts : (d u w m n : ℕ) (a b : Quadratic) (r : Fraction) → HasValue r (mul d a b) (m * n) → HasValue r (mul d (scale u a) (scale w b)) ((w * m) * (u * n))
+unfolding mul
 product_parts d u w m n a b r h =
     let before = λ (z : ℤ). identity integer_ring (pos w ∷ pos m ∷ pos u ∷ pos n ∷ z ∷ []) (λ w m u n z. ((w ⊗ m) ⊗ (u ⊗ n)) ⊗ z ≐ (w ⊗ u) ⊗ ((m ⊗ n) ⊗ z)) refl in
     quadratic_eq
@@ -166,6 +168,7 @@ product-value d x y =
 -- ---- signs and order
 
 sign-scale : {d : ℕ} → IsNoSquare d → (k : ℕ) (x : Quadratic) → 0 < k → sign d (scale k x) ≡ sign d x
+unfolding mul
 sign-scale {d} no_square k x up =
     let whole : Quadratic = record { p = pos k; q = pos 0 } in
     let positive : IsPositive d whole = both (omega (arith, ints)) (omega (arith, ints)) (λ zeros. let none = zeros.0 in absurd (omega (arith, ints))) in
@@ -197,7 +200,7 @@ pub difference-sign : {d : ℕ} → IsNoSquare d → (x y : Fraction) → IsLowe
 difference-sign {d} no_square x y lx ly =
     let up = reduced_den-positive (add (left_num x (negated y)) (right_num x (negated y))) (common_den x (negated y)) (multiple_positive x.den y.den lx.positive ly.positive) in
     value-sign no_square (sum x (negated y)) (add (scale y.den x.num) (scale x.den (neg y.num))) (x.den * y.den) up (mul-pos lx.positive ly.positive) (sum-value x (negated y))
-    ∙ ap (sign d) (crosswise x.den y.den x.num y.num)
+    ∙ (ap (sign d) (crosswise x.den y.den x.num y.num) ∙ sym (compare-is d (scale y.den x.num) (scale x.den y.num)))
 
 -- ---- inverses
 
@@ -238,6 +241,7 @@ content-times x =
 
 -- a fraction times its inverse is 1: the product of the numerators is that of the denominators
 pub reciprocal-value : {d : ℕ} → IsNoSquare d → (x : Fraction) → x.num ≢ nil → mul d x.num (reciprocal d x).num ≡ scale (x.den * (reciprocal d x).den) one
+unfolding mul
 reciprocal-value {d} no_square x other =
     let c = content x.num in
     let h = inner x in
