@@ -49,9 +49,6 @@ sub_eq e f = cc
 pub of_bits-sub : {a b y z : ℤ} → a ≡ y → b ≡ z → InWidth (y -ℤ z) → of_bits (a -ℤ b) ≡ y -ℤ z
 of_bits-sub e f h = of_bits-is (sub_eq e f) h
 
-pub fits-sub : {a b y z : ℤ} → a ≡ y → b ≡ z → InWidth (y -ℤ z) → FitsSigned w128 (a -ℤ b)
-fits-sub {a} {b} {y} {z} e f h = fits (a -ℤ b) (y -ℤ z) (sub_eq e f) h
-
 pub within_of_eq : {a z : ℤ} → a ≡ z → InWidth z → InWidth a
 within_of_eq e h = subst InWidth (sym e) h
 

@@ -6,7 +6,7 @@ use std::test::Fail;
 // Expected values of these tables were computed with whole numbers of any size, by squares.
 
 // d, p above 0, q below 0, and the sign of p + q·√d: mostly convergents of √d and what is beside them.
-const NEAR_TIES: [(u16, i128, i128, Ordering); 38] = [
+const NEAR_TIES: [(u16, i128, i128, Ordering); 44] = [
     (2, 3, -2, Ordering::Greater),
     (
         2,
@@ -200,6 +200,38 @@ const NEAR_TIES: [(u16, i128, i128, Ordering); 38] = [
     (2, 1, -1, Ordering::Less),
     (998, 31, -1, Ordering::Less),
     (998, 32, -1, Ordering::Greater),
+    // √999 is 3·√111
+    (111, 32, -3, Ordering::Greater),
+    (
+        111,
+        37329021606084002805,
+        -3543113933103242316,
+        Ordering::Greater,
+    ),
+    (
+        111,
+        66242574176165717669276936523056911953,
+        -6287466893853569988776742636388741374,
+        Ordering::Less,
+    ),
+    (
+        111,
+        143787999200359747530856762371851388899,
+        -13647752913427538618696402250061731591,
+        Ordering::Greater,
+    ),
+    (
+        111,
+        143787999200359747530856762371851388900,
+        -13647752913427538618696402250061731591,
+        Ordering::Greater,
+    ),
+    (
+        111,
+        143787999200359747530856762371851388898,
+        -13647752913427538618696402250061731591,
+        Ordering::Less,
+    ),
 ];
 
 // d, the parts of two numbers, and those of their product where it is given: each of the seven
