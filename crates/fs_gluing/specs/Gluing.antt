@@ -4,7 +4,7 @@ use Rattle.std.specs.declared.cmp.Ordering.{Ordering}
 use Rattle.std.specs.Ordering.{nat_cmp, ordering_then}
 use Rattle.std.specs.List.{AllByRecursion, range_with_len}
 use Rattle.fs_plane.specs.declared.corners.Corner.{Corner}
-use Rattle.fs_gluing.specs.declared.shapes.Point.{Point}
+use Rattle.fs_plane.specs.declared.vector.V2.{V2}
 use Rattle.fs_gluing.specs.declared.shapes.Glue.{Glue}
 use Rattle.fs_gluing.specs.declared.surfaces.Side.{Side}
 
@@ -27,12 +27,12 @@ abbrev pub sides_between : ℕ → ℕ → ℕ → List Corner
 sides_between i j n = map (λ k. record { polygon = i; side = k }) (range_with_len j n)
 
 -- the sides of polygon i from side j on, glued as p says; one without a partner is glued to itself
-abbrev pub glued_row : (Corner → Option Corner) → ℕ → ℕ → List Point → List Side
+abbrev pub glued_row : (Corner → Option Corner) → ℕ → ℕ → List V2 → List Side
 glued_row p i j [] = []
-glued_row p i j (a ∷ points) =
-    record { vector = record { x = a.x; y = a.y }; partner = unwrap_or (p (record { polygon = i; side = j })) (record { polygon = i; side = j }) } ∷ glued_row p i (j + 1) points
+glued_row p i j (vector ∷ vectors) =
+    record { vector = vector; partner = unwrap_or (p (record { polygon = i; side = j })) (record { polygon = i; side = j }) } ∷ glued_row p i (j + 1) vectors
 
 -- the polygons from the one with the number i on, glued as p says
-abbrev pub glued_rows : (Corner → Option Corner) → ℕ → List (List Point) → List (List Side)
+abbrev pub glued_rows : (Corner → Option Corner) → ℕ → List (List V2) → List (List Side)
 glued_rows p i [] = []
-glued_rows p i (points ∷ polygons) = glued_row p i 0 points ∷ glued_rows p (i + 1) polygons
+glued_rows p i (polygon ∷ polygons) = glued_row p i 0 polygon ∷ glued_rows p (i + 1) polygons

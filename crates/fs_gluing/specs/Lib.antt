@@ -1,6 +1,11 @@
 pub mod Polygons
-pub mod Shape
+pub mod Convex
+pub mod Reached
 pub mod Surface
+pub mod Places
+pub mod Turning
+pub mod Shape
+pub mod Gluing
 pub mod FirstFault
 pub mod Checks
-pub mod Gluing
+pub mod Marks

@@ -1,150 +1,123 @@
-ghost use Rattle.std.specs.Prelude.{◌≡◌, ◌⊎◌, ◌≤◌, ◌<◌, Err, length, map, Some, IsSome, IfOk, OnOk, IfErr};
+ghost use Rattle.std.specs.Prelude.{◌≡◌, ◌⊎◌, ◌≤◌, ◌<◌, ℕ, List, Err, length, map, Some, IsSome, IfOk, OnOk, IfErr};
 ghost use Rattle.std.specs.List.{AllByRecursion};
 ghost use Rattle.std.specs.BTreeMap.{get};
-ghost use Rattle.fs_gluing.specs.Polygons.{HasSide, at_side, all_sides};
-ghost use Rattle.fs_gluing.specs.Shape.{IsReady, vectors};
-ghost use Rattle.fs_gluing.specs.FirstFault.{Test, IsFirstFailure, answer, Judges, Passes, PassesIn, polygon_tests, tests_from, side_vectors};
-ghost use Rattle.fs_gluing.specs.FirstFault.Test.{Polygon, Opposite, Glued};
+ghost use Rattle.fs_plane.specs.declared.vector.V2.{V2};
+ghost use Rattle.fs_gluing.specs.declared.faults.BuildStop.{BuildStop};
+ghost use Rattle.fs_gluing.specs.declared.shapes.Glue.{Glue};
+ghost use Rattle.fs_gluing.specs.Polygons.{all_sides};
+ghost use Rattle.fs_gluing.specs.Places.{all_places};
+ghost use Rattle.fs_gluing.specs.Shape.{IsWithinLimits, polygons_of, vectors};
+ghost use Rattle.fs_gluing.specs.FirstFault.{Test, IsFirstFailure, answer, Judges, Passes, tests_from};
+ghost use Rattle.fs_gluing.specs.FirstFault.Test.{Glued};
 ghost use Rattle.fs_gluing.specs.Checks.{AnswersFirst};
-ghost use Rattle.fs_gluing.specs.Gluing.{corner_cmp, ArePartners, sides_between, glued_row, glued_rows};
+ghost use Rattle.fs_gluing.specs.Gluing.{corner_cmp, sides_between, glued_row, glued_rows};
 
 use crate::faults::{BuildStop, Fault};
+use crate::glue_lines::pair_sides;
+use crate::polygons::check_polygon;
+use crate::reaching::check_reached;
 use crate::sequence::Sequence;
 use crate::shapes::{Point, Shape};
 use crate::surfaces::{Side, Surface};
-use fs_plane::{Corner, Site, V2};
-use fs_quadratic::{Elem, Field};
+use fs_plane::{Corner, V2};
+use fs_quadratic::Field;
 use std::alloc::{AllocError, Global};
 use std::collections::BTreeMap;
 
-/// The surface of a shape.
+/// The surface of a shape of 1 to 256 polygons and at most 1,024 sides.
 ///
-/// Tried in this order, the first failure being the answer: of each polygon in turn, that the
-/// places of its vertices, side by side, are within the width (`Overflow` at the site `Close`), and
-/// that it closes (`NotClosed`); of each glue line in turn, that its sides are opposite
-/// (`NotOpposite`); of each side in turn, that it is on a glue line (`Unglued`). `NoMemory` may
-/// come at any time.
+/// Tried in this order, the first failure being the answer. Of each polygon in turn: that it has
+/// three sides (`FewSides`), that the places of its corners, side by side, are within the width
+/// (`Overflow` at the site `Close`), that it closes (`NotClosed`); of each of its corners in turn
+/// that the cross product of the two sides is within the width (`Overflow` at the site `Corner`)
+/// and positive (`NotConvex`); that it goes round once (`TurnsTwice`). Of each glue line in turn:
+/// that its sides are there (`NoSuchSide`), that they differ and stand on no earlier line
+/// (`GluedTwice`), that they are opposite (`NotOpposite`). Of each side in turn, that it is on a
+/// glue line (`Unglued`). Of each polygon in turn, that glued sides lead to it from polygon 0
+/// (`Apart`). `NoMemory` may come at any time.
 pub fn build(alloc: Global, field: Field, shape: &Shape) -> Result<Surface, BuildStop>
-    requires { IsReady shape.now }
+    requires { IsWithinLimits shape.now }
     ensures judged { Judges field.d shape.now result }
-    ensures first { (test : Test) → IsFirstFailure shape.now test
+    ensures first { (test : Test) → IsFirstFailure field.d shape.now test
         → (result ≡ Err BuildStop.NoMemory) ⊎ (result ≡ Err (answer test)) }
 {
-    check_polygons(shape)?;
-    check_glues(shape)?;
-    let partners = pair_sides(alloc, shape)?;
-    let polygons = glue_polygons(alloc, shape, &partners)?;
-    Ok(Surface::new(field, 1, polygons))
+    let polygons = take_vectors(alloc, shape)?;
+    let places = check_polygons(alloc, field, &polygons)?;
+    let partners = pair_sides(alloc, &polygons, shape.glues.as_slice())?;
+    let glued = glue_polygons(alloc, &polygons, &partners)?;
+    check_reached(alloc, &glued)?;
+    Ok(Surface::new(field, 1, glued, places))
 }
 
-// That each polygon stays within the width and closes.
-fn check_polygons(shape: &Shape) -> Result<(), BuildStop>
-    requires { IsReady shape.now }
-    ensures passed { OnOk result (AllByRecursion (Passes shape.now) (tests_from 0 (side_vectors shape.now))) }
-    ensures failed { IfErr result (AnswersFirst (Passes shape.now) (tests_from 0 (side_vectors shape.now)) answer) }
+// The side vectors of the polygons.
+fn take_vectors(alloc: Global, shape: &Shape) -> Result<Sequence<Sequence<V2>>, AllocError>
+    ensures { IfOk result (λ polygons. polygons ≡ polygons_of shape.now) }
 {
-    for (i, polygon) in shape.polygons.as_slice().iter().enumerate() {
-        check_polygon(i as u16, polygon.as_slice())?;
+    let mut polygons = Sequence::new(alloc);
+    for polygon in shape.polygons.as_slice() {
+        polygons.push(polygon_vectors(alloc, polygon.as_slice())?)?;
     }
-    Ok(())
+    Ok(polygons)
 }
 
-// That the vertices of the polygon with the number i are within the width, and that it closes.
-fn check_polygon(i: u16, sides: &[Point]) -> Result<(), BuildStop>
-    requires { length sides.now ≤ 1024 }
-    ensures passed { OnOk result (AllByRecursion (PassesIn (vectors sides.now)) (polygon_tests (vectors sides.now))) }
-    ensures failed { IfErr result
-        (AnswersFirst (PassesIn (vectors sides.now)) (polygon_tests (vectors sides.now)) (λ test. answer (Polygon i (vectors sides.now) test))) }
+fn polygon_vectors(alloc: Global, points: &[Point]) -> Result<Sequence<V2>, AllocError>
+    ensures { IfOk result (λ polygon. polygon ≡ vectors points.now) }
 {
-    let polygon = u32::from(i);
-    let mut place = V2::ZERO;
-    for (j, point) in sides.iter().enumerate() {
-        let side = j as u32;
-        let Ok(x) = place.x.add(point.x) else {
-            return Err(BuildStop::Overflow(Site::Close {
-                polygon,
-                side,
-                place: 1,
-            }));
-        };
-        let Ok(y) = place.y.add(point.y) else {
-            return Err(BuildStop::Overflow(Site::Close {
-                polygon,
-                side,
-                place: 2,
-            }));
-        };
-        place = V2 { x, y };
+    let mut polygon = Sequence::new(alloc);
+    for point in points {
+        polygon.push(V2 {
+            x: point.x,
+            y: point.y,
+        })?;
     }
-    if place != V2::ZERO {
-        return Err(BuildStop::Fault(Fault::NotClosed { polygon: i }));
-    }
-    Ok(())
+    Ok(polygon)
 }
 
-// That the sides on each glue line are opposite.
-fn check_glues(shape: &Shape) -> Result<(), BuildStop>
-    requires { IsReady shape.now }
-    ensures passed { OnOk result (AllByRecursion (Passes shape.now) (map Opposite shape.now.glues)) }
-    ensures failed { IfErr result (AnswersFirst (Passes shape.now) (map Opposite shape.now.glues) answer) }
+// The places of all corners, where each polygon passes its tests.
+fn check_polygons(
+    alloc: Global,
+    field: Field,
+    polygons: &Sequence<Sequence<V2>>,
+) -> Result<Sequence<Sequence<V2>>, BuildStop>
+    requires few { length polygons.now ≤ 256 }
+    requires short { AllByRecursion (λ polygon. length polygon ≤ 1024) polygons.now }
+    ensures passed { OnOk result ((glues : List Glue) → AllByRecursion (Passes field.d polygons.now glues) (tests_from 0 polygons.now)) }
+    ensures places { IfOk result (λ places. places ≡ all_places polygons.now) }
+    ensures failed { IfErr result (λ e. (e ≡ BuildStop.NoMemory) ⊎ ((glues : List Glue)
+        → AnswersFirst (Passes field.d polygons.now glues) (tests_from 0 polygons.now) answer e)) }
 {
-    for glue in shape.glues.as_slice() {
-        if vector_at(shape, glue.two) != vector_at(shape, glue.one).neg() {
-            return Err(BuildStop::Fault(Fault::NotOpposite { line: glue.line }));
-        }
+    let mut places = Sequence::new(alloc);
+    for (i, polygon) in polygons.as_slice().iter().enumerate() {
+        places.push(check_polygon(alloc, field, i as u16, polygon.as_slice())?)?;
     }
-    Ok(())
-}
-
-// The vector of a side.
-fn vector_at(shape: &Shape, c: Corner) -> V2
-    requires { HasSide shape.now.polygons c }
-    ensures { at_side (side_vectors shape.now) c ≡ Some result }
-{
-    let point = shape.polygons.as_slice()[c.polygon as usize].as_slice()[c.side as usize];
-    V2 {
-        x: point.x,
-        y: point.y,
-    }
-}
-
-// For each side on a glue line the other side on it.
-fn pair_sides(alloc: Global, shape: &Shape) -> Result<BTreeMap<Corner, Corner>, AllocError>
-    requires { IsReady shape.now }
-    ensures { IfOk result (λ partners. ArePartners shape.now.glues (get corner_cmp partners)) }
-{
-    let mut partners = BTreeMap::new(alloc);
-    for glue in shape.glues.as_slice() {
-        partners.insert(glue.one, glue.two)?;
-        partners.insert(glue.two, glue.one)?;
-    }
-    Ok(partners)
+    Ok(places)
 }
 
 // The polygons with the partner of each side, or the first side that has none.
 fn glue_polygons(
     alloc: Global,
-    shape: &Shape,
+    polygons: &Sequence<Sequence<V2>>,
     partners: &BTreeMap<Corner, Corner>,
 ) -> Result<Sequence<Sequence<Side>>, BuildStop>
-    requires { IsReady shape.now }
-    ensures glued { IfOk result (λ polygons. polygons ≡ glued_rows (get corner_cmp partners.now) 0 shape.now.polygons) }
-    ensures passed { OnOk result (AllByRecursion (λ c. IsSome (get corner_cmp partners.now c)) (all_sides shape.now.polygons)) }
+    requires few { length polygons.now ≤ 256 }
+    requires short { AllByRecursion (λ polygon. length polygon ≤ 1024) polygons.now }
+    ensures glued { IfOk result (λ rows. rows ≡ glued_rows (get corner_cmp partners.now) 0 polygons.now) }
+    ensures passed { OnOk result (AllByRecursion (λ c. IsSome (get corner_cmp partners.now c)) (all_sides polygons.now)) }
     ensures failed { IfErr result (λ e. (e ≡ BuildStop.NoMemory)
-        ⊎ AnswersFirst (λ c. IsSome (get corner_cmp partners.now c)) (all_sides shape.now.polygons) (λ c. answer (Glued c)) e) }
+        ⊎ AnswersFirst (λ c. IsSome (get corner_cmp partners.now c)) (all_sides polygons.now) (λ c. answer (Glued c)) e) }
 {
-    let mut polygons = Sequence::new(alloc);
-    for (i, polygon) in shape.polygons.as_slice().iter().enumerate() {
-        polygons.push(glue_polygon(alloc, i as u16, polygon.as_slice(), partners)?)?;
+    let mut rows = Sequence::new(alloc);
+    for (i, polygon) in polygons.as_slice().iter().enumerate() {
+        rows.push(glue_polygon(alloc, i as u16, polygon.as_slice(), partners)?)?;
     }
-    Ok(polygons)
+    Ok(rows)
 }
 
 // The sides of the polygon with the number i, each with its partner, or the first that has none.
 fn glue_polygon(
     alloc: Global,
     i: u16,
-    sides: &[Point],
+    sides: &[V2],
     partners: &BTreeMap<Corner, Corner>,
 ) -> Result<Sequence<Side>, BuildStop>
     requires { length sides.now ≤ 1024 }
@@ -154,7 +127,7 @@ fn glue_polygon(
         ⊎ AnswersFirst (λ c. IsSome (get corner_cmp partners.now c)) (sides_between i 0 (length sides.now)) (λ c. answer (Glued c)) e) }
 {
     let mut row = Sequence::new(alloc);
-    for (j, point) in sides.iter().enumerate() {
+    for (j, vector) in sides.iter().enumerate() {
         let corner = Corner {
             polygon: i,
             side: j as u16,
@@ -162,12 +135,8 @@ fn glue_polygon(
         let Some(partner) = partners.get(&corner) else {
             return Err(BuildStop::Fault(Fault::Unglued(corner)));
         };
-        let vector = V2 {
-            x: point.x,
-            y: point.y,
-        };
         row.push(Side {
-            vector,
+            vector: *vector,
             partner: *partner,
         })?;
     }

@@ -9,12 +9,24 @@ use std::alloc::{AllocError, AllocFailed};
 pub enum Fault {
     /// The line doesn't belong into a job there.
     BadLine { line: u32 },
+    /// The polygon has fewer than three sides.
+    FewSides { polygon: u16 },
     /// The sides of the polygon don't sum to (0,0).
     NotClosed { polygon: u16 },
+    /// The polygon doesn't turn left at the corner.
+    NotConvex(Corner),
+    /// The polygon goes round more than once.
+    TurnsTwice { polygon: u16 },
+    /// A side on the line isn't there.
+    NoSuchSide { line: u32 },
+    /// A side on the line is on an earlier glue line, or the line names one side twice.
+    GluedTwice { line: u32 },
     /// The vectors of the two sides on the line don't sum to (0,0).
     NotOpposite { line: u32 },
     /// The side is on no glue line.
     Unglued(Corner),
+    /// No glued sides lead from polygon 0 to the polygon.
+    Apart { polygon: u16 },
     /// There are more than 1,048,576 bytes.
     TooLong,
 }

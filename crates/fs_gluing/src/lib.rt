@@ -3,6 +3,9 @@
 
 mod building;
 mod faults;
+mod glue_lines;
+mod polygons;
+mod reaching;
 mod sequence;
 mod shapes;
 mod surfaces;

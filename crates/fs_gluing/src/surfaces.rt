@@ -1,4 +1,4 @@
-ghost use Rattle.std.specs.Prelude.{◌≡◌, Some, length, sum_by, ◌<◌, ◌↔◌, IsTrue, IfSome};
+ghost use Rattle.std.specs.Prelude.{◌≡◌, Some, length, sum_by, ◌+◌, ◌<◌, ◌↔◌, IsTrue, IfSome};
 ghost use Rattle.std.specs.List.{slice_get};
 
 use crate::sequence::Sequence;
@@ -15,39 +15,57 @@ pub struct Side {
 }
 
 /// A translation surface: polygons whose sides are glued in pairs by translations. Each polygon
-/// closes, and each side is glued to exactly one other, which has the opposite vector.
+/// closes, has three sides or more, turns left at each corner and goes round once. Each side is
+/// glued to exactly one other, which has the opposite vector, and from polygon 0 glued sides lead
+/// to every polygon.
 ///
-/// All vectors are the true ones times one positive denominator.
+/// All vectors and places are the true ones times one positive denominator.
 #[derive(Drop)]
 pub struct Surface {
     field: Field,
     den: i128,
     polygons: Sequence<Sequence<Side>>,
+    places: Sequence<Sequence<V2>>,
 }
 
 impl Model for Surface {
-    ghost use Rattle.fs_gluing.specs.Surface.{GluedPolygons, IsSurface};
+    ghost use Rattle.std.specs.Prelude.{◌≡◌, map};
+    ghost use Rattle.fs_gluing.specs.Places.{all_places};
+    ghost use Rattle.fs_gluing.specs.Surface.{GluedPolygons, IsSurface, side_vectors};
 
     ghost Value = { GluedPolygons };
 
     ghost view = { λ s. record { d = s.field.d; den = s.den; polygons = s.polygons } };
 
-    ghost invariant = { λ s. IsSurface (record { d = s.field.d; den = s.den; polygons = s.polygons }) };
+    ghost invariant = { λ s. IsSurface (record { d = s.field.d; den = s.den; polygons = s.polygons })
+        × (s.places ≡ all_places (map side_vectors s.polygons)) };
 }
 
 impl Surface {
+    ghost use Rattle.std.specs.Prelude.{map};
+    ghost use Rattle.fs_plane.specs.Vector.{vector_zero, vector_add};
+    ghost use Rattle.fs_gluing.specs.Convex.{corner_place};
+    ghost use Rattle.fs_gluing.specs.Places.{all_places};
     ghost use Rattle.fs_gluing.specs.Polygons.{at_side, HasSide};
-    ghost use Rattle.fs_gluing.specs.Surface.{IsSurface};
+    ghost use Rattle.fs_gluing.specs.Surface.{IsSurface, side_vectors};
+    ghost use Rattle.fs_gluing.specs.Turning.{TurnsTo, AreOnePoint};
 
-    /// The surface of these glued polygons.
-    pub(crate) fn new(field: Field, den: i128, polygons: Sequence<Sequence<Side>>) -> Surface
-        requires { IsSurface (record { d = field.d; den = den; polygons = polygons }) }
+    /// The surface of these glued polygons, the corners of which have these places.
+    pub(crate) fn new(
+        field: Field,
+        den: i128,
+        polygons: Sequence<Sequence<Side>>,
+        places: Sequence<Sequence<V2>>,
+    ) -> Surface
+        requires surface { IsSurface (record { d = field.d; den = den; polygons = polygons }) }
+        requires places { places ≡ all_places (map side_vectors polygons) }
         ensures { result ≡ record { d = field.d; den = den; polygons = polygons } }
     {
         Surface {
             field,
             den,
             polygons,
+            places,
         }
     }
 
@@ -107,6 +125,41 @@ impl Surface {
         ensures { IfSome (at_side self.now.polygons c) (λ side. result ≡ side.partner) }
     {
         self.at(c).partner
+    }
+
+    /// The place of a corner, times the denominator, where corner 0 of its polygon is at (0,0).
+    pub fn place(&self, c: Corner) -> V2
+        requires { HasSide self.now.polygons c }
+        ensures place { IfSome (slice_get self.now.polygons c.polygon) (λ polygon. result ≡ corner_place (side_vectors polygon) c.side) }
+        // Corner 0 is at (0,0), and a side leads from its corner to the next, the last one back to corner 0.
+        ensures first { c.side ≡ 0 → result ≡ vector_zero }
+        ensures next { IfSome (slice_get self.now.polygons c.polygon) (λ polygon. IfSome (slice_get polygon c.side) (λ side.
+            (c.side + 1 < length polygon → vector_add result side.vector ≡ corner_place (side_vectors polygon) (c.side + 1))
+            × (c.side + 1 ≡ length polygon → vector_add result side.vector ≡ vector_zero))) }
+    {
+        self.places.as_slice()[c.polygon as usize].as_slice()[c.side as usize]
+    }
+
+    /// The next corner counterclockwise round the vertex of a corner: the start of the side that
+    /// the side before the corner is glued to.
+    pub fn turn(&self, c: Corner) -> Corner
+        requires { HasSide self.now.polygons c }
+        ensures turn { TurnsTo self.now.polygons c result }
+        // It is a permutation of the corners.
+        ensures there { HasSide self.now.polygons result }
+        ensures one_to_one { (e : Corner) → HasSide self.now.polygons e → TurnsTo self.now.polygons e result → e ≡ c }
+        ensures onto { (e : Corner) → HasSide self.now.polygons e → (b : Corner) × HasSide self.now.polygons b × TurnsTo self.now.polygons b e }
+        // It keeps the vertex.
+        ensures vertex { AreOnePoint self.now.polygons c result }
+    {
+        let before = match c.side {
+            0 => self.sides(c.polygon) - 1,
+            side => side - 1,
+        };
+        self.partner(Corner {
+            polygon: c.polygon,
+            side: before,
+        })
     }
 
     // What stands at a side.

@@ -1,7 +1,10 @@
 -- Vectors of the plane, by their exact parts.
-use Rattle.std.specs.Prelude.{ℕ, List, [], ◌∷◌}
+use Rattle.std.specs.Prelude.{ℕ, List, [], ◌∷◌, Bool, true, false}
+use Rattle.std.specs.Ordering.{is_gt}
+use Rattle.std.specs.declared.cmp.Ordering.{Ordering}
+use Rattle.std.specs.declared.cmp.Ordering.TheVariants.{Less, Equal, Greater}
 use Rattle.fs_ring.specs.Vector as plane
-use Rattle.fs_quadratic.specs.Ring.{Quadratic, quadratic, zero, add, neg}
+use Rattle.fs_quadratic.specs.Ring.{Quadratic, quadratic, zero, add, neg, sign}
 use Rattle.fs_quadratic.specs.Width.{IsSmall}
 use Rattle.fs_plane.specs.declared.vector.V2.{V2}
 
@@ -44,3 +47,13 @@ dot d a b = plane.dot (quadratic d) (vector_of a) (vector_of b)
 -- the squared length
 abbrev pub norm : ℕ → V2 → Quadratic
 norm d a = plane.norm (quadratic d) (vector_of a)
+
+-- the upper half by the signs of y and x: y > 0, or y = 0 and x > 0
+abbrev pub upper_by_signs : Ordering → Ordering → Bool
+upper_by_signs Greater x = true
+upper_by_signs Equal x = is_gt x
+upper_by_signs Less x = false
+
+-- the vector points into the upper half
+abbrev pub is_upper : ℕ → V2 → Bool
+is_upper d v = upper_by_signs (sign d v.y) (sign d v.x)

@@ -8,6 +8,8 @@ pub struct Place(pub u32);
 pub enum Site {
     /// The place of vertex `side` of a polygon plus that side: place 1 is x, place 2 is y.
     Close { polygon: u32, side: u32, place: u32 },
+    /// The cross product of the two sides at a corner, by its three places.
+    Corner { polygon: u32, side: u32, place: u32 },
 }
 
 /// Why a computation over a surface gives no answer.

@@ -1,7 +1,8 @@
 ghost use Rattle.std.specs.Prelude.{◌≡◌};
-ghost use Rattle.fs_plane.specs.Vector.{vector_zero, vector_neg};
+ghost use Rattle.fs_plane.specs.Vector.{vector_zero, vector_neg, is_upper};
 
-use fs_quadratic::Elem;
+use fs_quadratic::{Elem, Field};
+use std::cmp::Ordering;
 
 /// A vector of the plane. On a surface its parts are the true ones times the surface's denominator.
 #[derive(Clone, Copy, Debug, PartialEq, Eq, Hash)]
@@ -24,6 +25,17 @@ impl V2 {
         V2 {
             x: self.x.neg(),
             y: self.y.neg(),
+        }
+    }
+
+    /// Whether it points into the upper half: y > 0, or y = 0 and x > 0.
+    pub fn is_upper(self, field: Field) -> bool
+        ensures { result ≡ is_upper field.d self }
+    {
+        match field.sign(self.y) {
+            Ordering::Greater => true,
+            Ordering::Less => false,
+            Ordering::Equal => field.sign(self.x) == Ordering::Greater,
         }
     }
 }

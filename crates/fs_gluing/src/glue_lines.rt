@@ -1,0 +1,86 @@
+ghost use Rattle.std.specs.Prelude.{◌≡◌, ◌⊎◌, ◌↔◌, List, [], ◌∷◌, ◌++◌, IsTrue, Some, IfOk, OnOk, IfErr};
+ghost use Rattle.std.specs.List.{AllByRecursion};
+ghost use Rattle.std.specs.BTreeMap.{get};
+ghost use Rattle.fs_plane.specs.declared.vector.V2.{V2};
+ghost use Rattle.fs_gluing.specs.declared.faults.BuildStop.{BuildStop};
+ghost use Rattle.fs_gluing.specs.declared.shapes.Glue.{Glue};
+ghost use Rattle.fs_gluing.specs.Polygons.{HasSide, at_side};
+ghost use Rattle.fs_gluing.specs.FirstFault.{PassesLine, line_tests, answer};
+ghost use Rattle.fs_gluing.specs.FirstFault.LineTest.{Single};
+ghost use Rattle.fs_gluing.specs.FirstFault.Test.{Line};
+ghost use Rattle.fs_gluing.specs.Checks.{AnswersFirst};
+ghost use Rattle.fs_gluing.specs.Gluing.{corner_cmp, ArePartners};
+
+use crate::faults::{BuildStop, Fault};
+use crate::sequence::Sequence;
+use crate::shapes::Glue;
+use fs_plane::{Corner, V2};
+use std::alloc::{AllocError, Global};
+use std::collections::BTreeMap;
+
+// For each side on a glue line the other side on it, where the lines pass their tests.
+pub fn pair_sides(
+    alloc: Global,
+    polygons: &Sequence<Sequence<V2>>,
+    glues: &[Glue],
+) -> Result<BTreeMap<Corner, Corner>, BuildStop>
+    ensures passed { OnOk result (AllByRecursion (PassesLine polygons.now) (line_tests [] glues.now)) }
+    ensures paired { IfOk result (λ partners. ArePartners glues.now (get corner_cmp partners)) }
+    ensures failed { IfErr result (λ e. (e ≡ BuildStop.NoMemory)
+        ⊎ AnswersFirst (PassesLine polygons.now) (line_tests [] glues.now) (λ test. answer (Line test)) e) }
+{
+    let mut partners = BTreeMap::new(alloc);
+    for glue in glues {
+        check_glue(polygons, &partners, glue)?;
+        pair(&mut partners, glue)?;
+    }
+    Ok(partners)
+}
+
+// Makes each of the two sides on a glue line the partner of the other.
+fn pair(partners: &mut BTreeMap<Corner, Corner>, glue: &Glue) -> Result<(), AllocError>
+    ensures { OnOk result ((polygons : List (List V2)) → (earlier : List Glue) → ArePartners earlier (get corner_cmp partners.old)
+        → PassesLine polygons (Single earlier glue.now) → ArePartners (earlier ++ glue.now ∷ []) (get corner_cmp partners.new)) }
+{
+    partners.insert(glue.one, glue.two)?;
+    partners.insert(glue.two, glue.one)?;
+    Ok(())
+}
+
+// That a glue line passes its tests, where the lines before it glue these partners.
+fn check_glue(
+    polygons: &Sequence<Sequence<V2>>,
+    partners: &BTreeMap<Corner, Corner>,
+    glue: &Glue,
+) -> Result<(), BuildStop>
+    ensures passed { OnOk result ((earlier : List Glue) → ArePartners earlier (get corner_cmp partners.now)
+        → AllByRecursion (PassesLine polygons.now) (line_tests earlier (glue.now ∷ []))) }
+    ensures failed { IfErr result (λ e. (earlier : List Glue) → ArePartners earlier (get corner_cmp partners.now)
+        → AnswersFirst (PassesLine polygons.now) (line_tests earlier (glue.now ∷ [])) (λ test. answer (Line test)) e) }
+{
+    let line = glue.line;
+    let (Some(one), Some(two)) = (
+        vector_at(polygons, glue.one),
+        vector_at(polygons, glue.two),
+    ) else {
+        return Err(BuildStop::Fault(Fault::NoSuchSide { line }));
+    };
+    if glue.one == glue.two
+        || partners.contains_key(&glue.one)
+        || partners.contains_key(&glue.two)
+    {
+        return Err(BuildStop::Fault(Fault::GluedTwice { line }));
+    }
+    if two != one.neg() {
+        return Err(BuildStop::Fault(Fault::NotOpposite { line }));
+    }
+    Ok(())
+}
+
+// The vector of a side, where it is there.
+fn vector_at(polygons: &Sequence<Sequence<V2>>, c: Corner) -> Option<V2>
+    ensures { result ≡ at_side polygons.now c }
+{
+    let polygon = polygons.as_slice().get(c.polygon as usize)?;
+    polygon.as_slice().get(c.side as usize).copied()
+}
