@@ -1,0 +1,6 @@
+pub mod Checks
+pub mod Vectors
+pub mod Items
+pub mod Walks
+pub mod Bends
+pub mod PolygonTests

@@ -1,0 +1,193 @@
+-- The corners of a polygon in turn.
+use Rattle.std.proofs.Common.{◌≡◌, ◌≢◌, ℕ, ◌+◌, ◌-◌, ◌≤◌, ◌<◌, ◌⊎◌, inl, inr, Bool, true, false, ◌&&◌, cond, List, [], ◌∷◌, ◌++◌, Option, Some, None, Result, Ok, Err, length, drop, zero, suc, sym, ap, ◌∙◌, refl, subst, arith, unwrap_or, add_assoc}
+use Rattle.std.proofs.lemmas.Grind.{common_steps}
+use Rattle.std.proofs.lemmas.List.{drop_more}
+use Rattle.std.proofs.lemmas.List.Sums.{sum_by-cons}
+use Rattle.std.specs.List.{AllByRecursion, count_by, slice_get}
+use Rattle.std.specs.declared.cmp.Ordering.{Ordering}
+use Rattle.std.specs.Bool.{◌==◌}
+use Rattle.std.specs.Ordering.{ordering_index}
+use Rattle.std.specs.declared.cmp.Ordering.TheVariants.{Less, Equal, Greater}
+use Rattle.fs_quadratic.specs.Ring.{Quadratic, IsPositive, sign}
+use Rattle.fs_quadratic.specs.Radicand.{IsRadicand}
+use Rattle.fs_quadratic.proofs.Signs.{sign-positive, positive_of_sign}
+use Rattle.fs_quadratic.proofs.SquareRoot.{radicand_no_square}
+use Rattle.fs_quadratic.specs.Width.{Fits, MulFits}
+use Rattle.fs_plane.specs.declared.vector.V2.{V2}
+use Rattle.fs_plane.specs.declared.sites.Place.{Place}
+use Rattle.fs_plane.specs.declared.sites.Site.TheVariants as sites
+use Rattle.fs_plane.specs.Checked.{place, IsFirstOfThree, first, second, third}
+use Rattle.fs_plane.specs.Formulas.{cross_after}
+use Rattle.fs_plane.specs.Vector.{vector_zero, cross}
+use Rattle.fs_plane.proofs.FormulaLaws.{cross_value, cross_stops}
+use Rattle.fs_gluing.specs.declared.faults.BuildStop.{BuildStop}
+use Rattle.fs_gluing.specs.declared.faults.Fault.TheVariants as faults
+use Rattle.fs_gluing.specs.declared.faults.BuildStop.TheVariants as stops
+use Rattle.fs_gluing.specs.Convex.{Bend, bends, bends_from, last_side, is_rise}
+use Rattle.fs_gluing.specs.FirstFault.{PolygonTest, Cross_fits, Left, PassesIn, corner_tests}
+use Rattle.fs_gluing.specs.Checks.{PassesBefore, AnswersFirst}
+use Rattle.fs_gluing.proofs.Checks.{passes_before_none, passes_before_more, passes_before_same, all_from_passes_before, answers_first_of_rest, answers_first_of_head, answers_first_of_front}
+use Rattle.fs_gluing.proofs.Items.{IsItem}
+use Rattle.fs_gluing.proofs.Walks.{answer_in}
+
+last_side_at : (side : V2) (sides : List V2) → unwrap_or (slice_get (side ∷ sides) (length sides)) vector_zero ≡ last_side (side ∷ sides)
+last_side_at side [] = refl
+last_side_at side (next ∷ sides) = last_side_at next sides
+
+-- the last side is the one at the last place
+pub last_side_is : (sides : List V2) → unwrap_or (slice_get sides (length sides - 1)) vector_zero ≡ last_side sides
+last_side_is [] = refl
+last_side_is (side ∷ sides) =
+    let e : length (side ∷ sides) - 1 ≡ length sides = omega arith in
+    ap (λ n. unwrap_or (slice_get (side ∷ sides) n) vector_zero) e ∙ last_side_at side sides
+
+-- ---- one corner
+
+false_not_true : false ≡ true → ⊥
+false_not_true e = cc
+
+-- what `== Ordering::Greater` answers
+pub greater_from_eq : (o : Ordering) (b : Bool) → b ≡ (ordering_index o == 2) → b ≡ true → o ≡ Greater
+greater_from_eq Less b is e = absurd (false_not_true (sym is ∙ e))
+greater_from_eq Equal b is e = absurd (false_not_true (sym is ∙ e))
+greater_from_eq Greater b is e = refl
+
+pub not_greater_from_eq : (o : Ordering) (b : Bool) → b ≡ (ordering_index o == 2) → b ≡ false → o ≢ Greater
+not_greater_from_eq Less b is e f = cc
+not_greater_from_eq Equal b is e f = cc
+not_greater_from_eq Greater b is e f = false_not_true (sym e ∙ is)
+
+same_stop : (a b : Place) → ◌≡◌ {A = Result Quadratic Place} (Err a) (Err b) → b ≡ a
+same_stop a b h = cc
+
+same_place : (p q : ℕ) → ◌≡◌ {A = Result Quadratic Place} (Err (place p)) (Err (place q)) → q ≡ p
+same_place p q h = ap (λ (x : Place). x.0) (same_stop (place p) (place q) h)
+
+module _ (d : ℕ) (sides : List V2) (j : ℕ) (bend : Bend) where
+  abbrev crossed : Result Quadratic Place
+  crossed = cross_after 0 d bend.before bend.after
+
+  -- where the cross product is known, it stops nowhere
+  cross_known : (value : Quadratic) → crossed ≡ Ok value → AllByRecursion (PassesIn d sides) (Cross_fits j bend 1 ∷ Cross_fits j bend 2 ∷ Cross_fits j bend 3 ∷ [])
+  cross_known value e = (not_err 1, (not_err 2, (not_err 3, tt)))
+    where
+      not_err : (p : ℕ) → crossed ≢ Err (place p)
+      not_err p f = let both : Ok value ≡ Err (place p) = sym e ∙ f in cc
+
+  pub corner_turns : (value : Quadratic) → IsRadicand d → crossed ≡ Ok value → sign d value ≡ Greater → AllByRecursion (PassesIn d sides) (corner_tests j (bend ∷ []))
+  corner_turns value radicand e is =
+      let known = cross_known value e in
+      let left : IsPositive d (cross d bend.before bend.after) = subst (IsPositive d) (cross_value 0 d bend.before bend.after value e) (positive_of_sign (radicand_no_square radicand) value is) in
+      (known.0, (known.1.0, (known.1.1.0, (left, tt))))
+
+  pub corner_straight : (i : ℕ) (value : Quadratic) → crossed ≡ Ok value → sign d value ≢ Greater
+      → AnswersFirst (PassesIn d sides) (corner_tests j (bend ∷ [])) (answer_in i sides) (stops.Fault (faults.NotConvex (record { polygon = i; side = j })))
+  corner_straight i value e isnt =
+      answers_first_of_rest _ _ (Left j bend ∷ []) _ _
+      (record { before = Cross_fits j bend 1 ∷ Cross_fits j bend 2 ∷ Cross_fits j bend 3 ∷ []; whole = refl; passed = cross_known value e })
+      (answers_first_of_head (PassesIn d sides) (Left j bend) [] (answer_in i sides) _ refl
+      (λ left. isnt (sign-positive d value (subst (IsPositive d) (sym (cross_value 0 d bend.before bend.after value e)) left))))
+
+  -- where it stops at one place, it stops at no other
+  stops_once : (p q : ℕ) → crossed ≡ Err (place p) → q ≢ p → crossed ≢ Err (place q)
+  stops_once p q e other f = other (same_place p q (sym e ∙ f))
+
+  abbrev answered : ℕ → ℕ → Type 0
+  answered i p = AnswersFirst (PassesIn d sides) (corner_tests j (bend ∷ [])) (answer_in i sides) (stops.Overflow (sites.Corner i j p))
+
+  fails_at : (i p : ℕ) (front rest : List PolygonTest) → corner_tests j (bend ∷ []) ≡ front ++ Cross_fits j bend p ∷ rest → AllByRecursion (PassesIn d sides) front → crossed ≡ Err (place p) → answered i p
+  fails_at i p front rest whole passed e =
+      answers_first_of_rest _ _ (Cross_fits j bend p ∷ rest) _ _ (record { before = front; whole = whole; passed = passed })
+      (answers_first_of_head (PassesIn d sides) (Cross_fits j bend p) rest (answer_in i sides) _ refl (λ fits. fits e))
+
+  stops_at : (i p : ℕ) → crossed ≡ Err (place p) → IsFirstOfThree (MulFits d bend.before.x bend.after.y) (MulFits d bend.before.y bend.after.x) (Fits (cross d bend.before bend.after)) 0 (place p) → answered i p
+  stops_at i p e (first fails is) =
+      let here : p ≡ 1 = ap (λ (x : Place). x.0) is in
+      subst (answered i) (sym here) (fails_at i 1 [] _ refl tt (subst (λ n. crossed ≡ Err (place n)) here e))
+  stops_at i p e (second passes fails is) =
+      let here : p ≡ 2 = ap (λ (x : Place). x.0) is in
+      let one : 1 ≢ p = omega arith in
+      subst (answered i) (sym here) (fails_at i 2 (Cross_fits j bend 1 ∷ []) _ refl (stops_once p 1 e one, tt) (subst (λ n. crossed ≡ Err (place n)) here e))
+  stops_at i p e (third passes passes' fails is) =
+      let here : p ≡ 3 = ap (λ (x : Place). x.0) is in
+      let one : 1 ≢ p = omega arith in
+      let two : 2 ≢ p = omega arith in
+      subst (answered i) (sym here) (fails_at i 3 (Cross_fits j bend 1 ∷ Cross_fits j bend 2 ∷ []) _ refl (stops_once p 1 e one, (stops_once p 2 e two, tt)) (subst (λ n. crossed ≡ Err (place n)) here e))
+
+  -- where it stops, that is the first test to fail
+  pub corner_stops : (i m n p : ℕ) → m ≡ i → n ≡ j → crossed ≡ Err (place p)
+      → AnswersFirst (PassesIn d sides) (corner_tests j (bend ∷ [])) (answer_in i sides) (stops.Overflow (sites.Corner m n p))
+  corner_stops i m n p same_i same_j e =
+      let a : answered i p = stops_at i p e ((cross_stops 0 d bend.before bend.after (place p)).0 e) in
+      record { test = a.test; first = a.first; is = ap (λ k. stops.Overflow (sites.Corner k n p)) same_i ∙ ap (λ k. stops.Overflow (sites.Corner i k p)) same_j ∙ a.is }
+
+-- ---- all corners in turn
+
+-- the corners before j pass, and the walk comes to corner j along this side
+pub record TurnsTo (d : ℕ) (sides : List V2) (j : ℕ) (before : V2) : Type 0 where
+  pub passed : PassesBefore (PassesIn d sides) (corner_tests 0 (bends sides)) (corner_tests j (bends_from before (drop j sides)))
+
+pub corners_none : (d : ℕ) (sides : List V2) (before : V2) → before ≡ last_side sides → TurnsTo d sides 0 before
+corners_none d sides before is = record { passed = passes_before_none _ _ _ (ap (λ b. corner_tests 0 (bends_from b sides)) (sym is)) }
+
+next_tests : (sides : List V2) (j : ℕ) (before side : V2) → IsItem sides j side
+    → corner_tests j (bends_from before (drop j sides)) ≡ corner_tests j ((record { before = before; after = side }) ∷ []) ++ corner_tests (j + 1) (bends_from side (drop (j + 1) sides))
+next_tests sides j before side item = ap (λ ss. corner_tests j (bends_from before ss)) (drop_more sides j side item.inside ∙ ap (λ s. s ∷ drop (j + 1) sides) (sym item.is))
+
+pub corners_more : (d : ℕ) (sides : List V2) (j : ℕ) (before side : V2) → IsItem sides j side → TurnsTo d sides j before
+    → AllByRecursion (PassesIn d sides) (corner_tests j ((record { before = before; after = side }) ∷ [])) → TurnsTo d sides (j + 1) side
+corners_more d sides j before side item t a =
+    record { passed = passes_before_more _ _ (corner_tests j ((record { before = before; after = side }) ∷ [])) _ (passes_before_same _ _ _ _ (next_tests sides j before side item) t.passed) a }
+
+pub corner_fails : (d : ℕ) (sides : List V2) (i j : ℕ) (before side : V2) (e : BuildStop) → IsItem sides j side → TurnsTo d sides j before
+    → AnswersFirst (PassesIn d sides) (corner_tests j ((record { before = before; after = side }) ∷ [])) (answer_in i sides) e
+    → AnswersFirst (PassesIn d sides) (corner_tests 0 (bends sides)) (answer_in i sides) e
+corner_fails d sides i j before side e item t a =
+    answers_first_of_rest _ _ _ _ _ (passes_before_same _ _ _ _ (next_tests sides j before side item) t.passed) (answers_first_of_front _ _ _ _ _ a)
+
+drop_all : (sides : List V2) (n : ℕ) → n ≡ length sides → drop n sides ≡ []
+drop_all sides n e = grind (arith, common_steps)
+
+pub corners_all : (d : ℕ) (sides : List V2) (n : ℕ) (before : V2) → n ≡ length sides → TurnsTo d sides n before → AllByRecursion (PassesIn d sides) (corner_tests 0 (bends sides))
+corners_all d sides n before e t =
+    all_from_passes_before _ _ (passes_before_same _ _ _ _ (ap (λ ss. corner_tests n (bends_from before ss)) (drop_all sides n e)) t.passed)
+
+-- ---- rises counted
+
+-- the rises so far, and those at the corners to come, are all of them
+pub record Rises (d : ℕ) (sides : List V2) (j : ℕ) (before : V2) (rises : ℕ) : Type 0 where
+  pub few : rises ≤ j
+  pub counted : rises + count_by (is_rise d) (bends_from before (drop j sides)) ≡ count_by (is_rise d) (bends sides)
+
+pub rises_none : (d : ℕ) (sides : List V2) (before : V2) → before ≡ last_side sides → Rises d sides 0 before 0
+rises_none d sides before is =
+    let zero_left : 0 + count_by (is_rise d) (bends_from before sides) ≡ count_by (is_rise d) (bends_from before sides) = omega arith in
+    record { few = omega arith; counted = zero_left ∙ ap (λ b. count_by (is_rise d) (bends_from b sides)) is }
+
+next_count : (d : ℕ) (sides : List V2) (j : ℕ) (before side : V2) → IsItem sides j side
+    → count_by (is_rise d) (bends_from before (drop j sides)) ≡ cond (is_rise d (record { before = before; after = side })) 1 0 + count_by (is_rise d) (bends_from side (drop (j + 1) sides))
+next_count d sides j before side item =
+    ap (λ ss. count_by (is_rise d) (bends_from before ss)) (drop_more sides j side item.inside ∙ ap (λ s. s ∷ drop (j + 1) sides) (sym item.is))
+    ∙ sum_by-cons (λ bend. cond (is_rise d bend) 1 0) (record { before = before; after = side }) (bends_from side (drop (j + 1) sides))
+
+pub rise_more : (d : ℕ) (sides : List V2) (j : ℕ) (before side : V2) (rises : ℕ) → IsItem sides j side → Rises d sides j before rises
+    → is_rise d (record { before = before; after = side }) ≡ true → Rises d sides (j + 1) side (rises + 1)
+rise_more d sides j before side rises item r is =
+    let next = next_count d sides j before side item ∙ ap (λ b. cond b 1 0 + count_by (is_rise d) (bends_from side (drop (j + 1) sides))) is in
+    let few = r.few in
+    let counted = r.counted in
+    record { few = omega arith; counted = omega arith }
+
+pub rise_same : (d : ℕ) (sides : List V2) (j : ℕ) (before side : V2) (rises : ℕ) → IsItem sides j side → Rises d sides j before rises
+    → is_rise d (record { before = before; after = side }) ≡ false → Rises d sides (j + 1) side rises
+rise_same d sides j before side rises item r is =
+    let next = next_count d sides j before side item ∙ ap (λ b. cond b 1 0 + count_by (is_rise d) (bends_from side (drop (j + 1) sides))) is in
+    let few = r.few in
+    let counted = r.counted in
+    record { few = omega arith; counted = omega arith }
+
+pub rises_all : (d : ℕ) (sides : List V2) (n : ℕ) (before : V2) (rises : ℕ) → n ≡ length sides → Rises d sides n before rises → rises ≡ count_by (is_rise d) (bends sides)
+rises_all d sides n before rises e r =
+    let none = ap (λ ss. count_by (is_rise d) (bends_from before ss)) (drop_all sides n e) in
+    let counted = r.counted in
+    omega arith
