@@ -4,3 +4,5 @@ pub mod Items
 pub mod Walks
 pub mod Bends
 pub mod PolygonTests
+pub mod Pairs
+pub mod Lines

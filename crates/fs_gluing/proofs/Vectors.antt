@@ -1,10 +1,11 @@
--- Vectors compared, and turned round twice.
+-- Vectors and corners compared, and vectors turned round twice.
 use Rattle.std.proofs.Common.{◌≡◌, ◌≢◌, Bool, true, false, not, ◌&&◌, sym, ap, ◌∙◌, refl}
 use Rattle.std.proofs.Math.IntN.{neg_ℤ, neg_ℤ-neg_ℤ}
-use Rattle.std.specs.Bool.{Decides}
+use Rattle.std.specs.Bool.{Decides, ◌==◌}
 use Rattle.std.specs.Ordering.{int_eq}
-use Rattle.std.proofs.lemmas.Bool.Decides.{Decides-int_eq, Decides-and, Decides-like, Decides-not}
+use Rattle.std.proofs.lemmas.Bool.Decides.{Decides-int_eq, Decides-eqb, Decides-and, Decides-like, Decides-not}
 use Rattle.fs_quadratic.specs.Ring.{Quadratic, neg}
+use Rattle.fs_plane.specs.declared.corners.Corner.{Corner}
 use Rattle.fs_plane.specs.declared.vector.V2.{V2}
 use Rattle.fs_plane.specs.Vector.{vector_neg}
 
@@ -42,3 +43,22 @@ neg-neg a = ap (λ z. record { p = z; q = neg_ℤ (neg_ℤ a.q) }) (neg_ℤ-neg_
 
 pub vector_neg-vector_neg : (a : V2) → vector_neg (vector_neg a) ≡ a
 vector_neg-vector_neg a = ap (λ x. record { x = x; y = neg (neg a.y) }) (neg-neg a.x) ∙ ap (λ y. record { x = a.x; y = y }) (neg-neg a.y)
+
+-- what `==` answers of corners
+abbrev pub same_corner : Corner → Corner → Bool
+same_corner a b = a.polygon == b.polygon && a.side == b.side
+
+Decides-same_corner : (a b : Corner) → Decides (same_corner a b) (a ≡ b)
+Decides-same_corner a b = Decides-like _
+    (λ e. ap (λ i. record { polygon = i; side = a.side }) e.0 ∙ ap (λ j. record { polygon = b.polygon; side = j }) e.1)
+    (λ e. (ap (λ (c : Corner). c.polygon) e, ap (λ (c : Corner). c.side) e))
+    (Decides-and _ _ (Decides-eqb a.polygon b.polygon) (Decides-eqb a.side b.side))
+
+pub one_corner : (a b : Corner) (r : Bool) → r ≡ same_corner a b → r ≡ true → a ≡ b
+one_corner a b r is e = (Decides-same_corner a b).0 (sym is ∙ e)
+
+false_not_true : false ≡ true → ⊥
+false_not_true e = cc
+
+pub two_corners : (a b : Corner) (r : Bool) → r ≡ same_corner a b → r ≡ false → a ≢ b
+two_corners a b r is e same = false_not_true (sym e ∙ is ∙ (Decides-same_corner a b).1 same)
