@@ -6,3 +6,5 @@ pub mod Bends
 pub mod PolygonTests
 pub mod Pairs
 pub mod Lines
+pub mod Rows
+pub mod EachPolygon

@@ -1,0 +1,108 @@
+-- The polygons of a shape in turn.
+use Rattle.std.proofs.Common.{◌≡◌, ◌≤◌, ◌<◌, ◌+◌, ℕ, List, [], ◌∷◌, ◌++◌, length, drop, take, map, sum_by, sym, ap, ◌∙◌, refl, subst, arith, append_assoc, zero, suc, get_or}
+use Rattle.std.proofs.lemmas.Grind.{common_steps}
+use Rattle.std.proofs.lemmas.List.{take_more, drop_more, length-map, append-nil, map-append}
+use Rattle.std.proofs.lemmas.List.Sums.{sum_by-cons}
+use Rattle.std.specs.List.{AllByRecursion}
+use Rattle.fs_quadratic.proofs.Firsts.{All-map}
+use Rattle.fs_plane.specs.declared.vector.V2.{V2}
+use Rattle.fs_plane.specs.Vector.{vector_zero}
+use Rattle.fs_gluing.specs.declared.shapes.Point.{Point}
+use Rattle.fs_gluing.specs.declared.shapes.Glue.{Glue}
+use Rattle.fs_gluing.specs.declared.shapes.Shape.{Shape}
+use Rattle.fs_gluing.specs.declared.faults.BuildStop.{BuildStop}
+use Rattle.fs_gluing.specs.Places.{places_from, all_places}
+use Rattle.fs_gluing.specs.Shape.{vectors, polygons_of, IsWithinLimits}
+use Rattle.fs_gluing.specs.FirstFault.{PassesIn, polygon_tests, Polygon, Passes, answer, tests_from}
+use Rattle.fs_gluing.specs.Checks.{PassesBefore, AnswersFirst}
+use Rattle.fs_gluing.proofs.Checks.{passes_before_none, passes_before_more, passes_before_same, all_from_passes_before, answers_first_of_rest, answers_first_of_front, answers_first_of_map}
+use Rattle.fs_gluing.proofs.Items.{IsItem}
+use Rattle.fs_gluing.proofs.Walks.{answer_in}
+
+-- the first i polygons pass, and these are the places of their corners
+pub record Passed (d : ℕ) (polygons : List (List V2)) (i : ℕ) (places : List (List V2)) : Type 0 where
+  pub passed : (glues : List Glue) → PassesBefore (Passes d polygons glues) (tests_from 0 polygons) (tests_from i (drop i polygons))
+  pub places_are : places ++ all_places (drop i polygons) ≡ all_places polygons
+
+pub passed_none : (d : ℕ) (polygons places : List (List V2)) → places ≡ [] → Passed d polygons 0 places
+passed_none d polygons places none = record {
+  passed = λ glues. passes_before_none _ _ _ refl;
+  places_are = ap (λ (ps : List (List V2)). ps ++ all_places polygons) none;
+}
+
+next_polygon : (polygons : List (List V2)) (i : ℕ) (polygon : List V2) → IsItem polygons i polygon → drop i polygons ≡ polygon ∷ drop (i + 1) polygons
+next_polygon polygons i polygon item = drop_more polygons i polygon item.inside ∙ ap (λ p. p ∷ drop (i + 1) polygons) (sym item.is)
+
+pub passed_more : (d : ℕ) (polygons : List (List V2)) (i : ℕ) (polygon : List V2) (places places' : List (List V2)) (own : List V2) → IsItem polygons i polygon → Passed d polygons i places
+    → AllByRecursion (PassesIn d polygon) (polygon_tests polygon) → own ≡ places_from vector_zero polygon → places' ≡ places ++ own ∷ [] → Passed d polygons (i + 1) places'
+passed_more d polygons i polygon places places' own item p a is more =
+    let next = next_polygon polygons i polygon item in
+    record {
+      passed = λ glues. passes_before_more _ _ (map (Polygon i polygon) (polygon_tests polygon)) _ (passes_before_same _ _ _ _ (ap (tests_from i) next) (p.passed glues))
+          (All-map (Polygon i polygon) (Passes d polygons glues) (polygon_tests polygon) a);
+      places_are = ap (λ (ps : List (List V2)). ps ++ all_places (drop (i + 1) polygons)) more
+          ∙ append_assoc places (own ∷ []) (all_places (drop (i + 1) polygons))
+          ∙ ap (λ (ps : List V2). places ++ (ps ∷ all_places (drop (i + 1) polygons))) is
+          ∙ ap (λ (ps : List (List V2)). places ++ all_places ps) (sym next)
+          ∙ p.places_are;
+    }
+
+pub passed_fails : (d : ℕ) (polygons : List (List V2)) (i : ℕ) (polygon : List V2) (places : List (List V2)) (e : BuildStop) → IsItem polygons i polygon → Passed d polygons i places
+    → AnswersFirst (PassesIn d polygon) (polygon_tests polygon) (answer_in i polygon) e → (glues : List Glue) → AnswersFirst (Passes d polygons glues) (tests_from 0 polygons) answer e
+passed_fails d polygons i polygon places e item p a glues =
+    answers_first_of_rest _ _ _ _ _ (passes_before_same _ _ _ _ (ap (tests_from i) (next_polygon polygons i polygon item)) (p.passed glues))
+    (answers_first_of_front _ _ _ _ _ (answers_first_of_map (Polygon i polygon) (Passes d polygons glues) (polygon_tests polygon) answer e a))
+
+drop_whole : (polygons : List (List V2)) (n : ℕ) → n ≡ length polygons → drop n polygons ≡ []
+drop_whole polygons n e = grind (arith, common_steps)
+
+pub passed_all : (d : ℕ) (polygons : List (List V2)) (n : ℕ) (places : List (List V2)) → n ≡ length polygons → Passed d polygons n places
+    → ((glues : List Glue) → AllByRecursion (Passes d polygons glues) (tests_from 0 polygons)) × (places ≡ all_places polygons)
+passed_all d polygons n places e p = (
+  (λ glues. all_from_passes_before _ _ (passes_before_same _ _ _ _ (ap (tests_from n) (drop_whole polygons n e)) (p.passed glues))),
+  sym (append-nil places) ∙ ap (λ (ps : List (List V2)). places ++ all_places ps) (sym (drop_whole polygons n e)) ∙ p.places_are,
+)
+
+pub vectors_more : (points : List Point) (i : ℕ) (point : Point) (polygon polygon' : List V2) → IsItem points i point → polygon ≡ vectors (take i points)
+    → polygon' ≡ polygon ++ (record { x = point.x; y = point.y }) ∷ [] → polygon' ≡ vectors (take (i + 1) points)
+vectors_more points i point polygon polygon' item e more =
+    let to_vector : Point → V2 = λ p. record { x = p.x; y = p.y } in
+    more ∙ ap (λ vs. vs ++ to_vector point ∷ []) e ∙ ap (λ p. vectors (take i points) ++ to_vector p ∷ []) item.is
+    ∙ sym (ap vectors (take_more points i point item.inside) ∙ map-append to_vector (take i points) (get_or points i point ∷ []))
+
+-- what holds of each polygon holds of the one at a place
+pub all_at : {X : Type 0} (P : X → Type 0) (xs : List X) (i : ℕ) (x : X) → AllByRecursion P xs → IsItem xs i x → P x
+all_at P xs i x a item = subst P (sym item.is) (at P xs i x a item.inside)
+  where
+    at : {X : Type 0} (P : X → Type 0) (xs : List X) (i : ℕ) (d : X) → AllByRecursion P xs → i < length xs → P (get_or xs i d)
+    at P [] i d a l = absurd (omega arith)
+    at P (x ∷ xs) zero d a l = a.0
+    at P (x ∷ xs) (suc i) d a l = at P xs i d a.1 (omega arith)
+
+-- ---- a shape within the limits
+
+sum_of_vectors : (polygons : List (List Point)) → sum_by length (map vectors polygons) ≡ sum_by length polygons
+sum_of_vectors [] = refl
+sum_of_vectors (polygon ∷ polygons) =
+    sum_by-cons length (vectors polygon) (map vectors polygons)
+    ∙ ap (λ n. n + sum_by length (map vectors polygons)) (length-map polygon (λ (p : Point). record { x = p.x; y = p.y }))
+    ∙ ap (λ n. length polygon + n) (sum_of_vectors polygons)
+    ∙ sym (sum_by-cons length polygon polygons)
+
+each_short : (polygons : List (List V2)) (most : ℕ) → sum_by length polygons ≤ most → AllByRecursion (λ polygon. length polygon ≤ most) polygons
+each_short [] most few = tt
+each_short (polygon ∷ polygons) most few =
+    let sum = sum_by-cons length polygon polygons in
+    (omega arith, each_short polygons most (omega arith))
+
+pub shape_count : (shape : Shape) → length (polygons_of shape) ≡ length shape.polygons
+shape_count shape = length-map shape.polygons vectors
+
+pub shape_sides : (shape : Shape) → sum_by length (polygons_of shape) ≡ sum_by length shape.polygons
+shape_sides shape = sum_of_vectors shape.polygons
+
+pub few_polygons : (shape : Shape) → IsWithinLimits shape → length (polygons_of shape) ≤ 256
+few_polygons shape h = subst (λ n. n ≤ 256) (sym (shape_count shape)) h.polygons
+
+pub short_polygons : (shape : Shape) → IsWithinLimits shape → AllByRecursion (λ polygon. length polygon ≤ 1024) (polygons_of shape)
+short_polygons shape h = each_short (polygons_of shape) 1024 (subst (λ n. n ≤ 1024) (sym (shape_sides shape)) h.sides)
