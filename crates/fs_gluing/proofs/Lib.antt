@@ -8,3 +8,5 @@ pub mod Pairs
 pub mod Lines
 pub mod Rows
 pub mod EachPolygon
+pub mod Glued
+pub mod Judged
