@@ -32,10 +32,10 @@ before-after : (n k : ℕ) → k < n → before n (after n k) ≡ k
 before-after n k l = grind (arith, nat_tests)
 
 -- the polygon of a corner that is there
-record StandsIn {X : Type 0} (polygons : List (List X)) (c : Corner) : Type 0 where
-  polygon : List X
-  is : slice_get polygons c.polygon ≡ Some polygon
-  inside : c.side < length polygon
+pub record StandsIn {X : Type 0} (polygons : List (List X)) (c : Corner) : Type 0 where
+  pub polygon : List X
+  pub is : slice_get polygons c.polygon ≡ Some polygon
+  pub inside : c.side < length polygon
 
 stands_in_by : {X : Type 0} (polygons : List (List X)) (c : Corner) (x : X) (o : Option (List X)) → slice_get polygons c.polygon ≡ o → option_and_then (λ polygon. slice_get polygon c.side) o ≡ Some x → StandsIn polygons c
 stands_in_by polygons c x None is e = cc
@@ -48,7 +48,7 @@ stands_in_some : {X : Type 0} (polygons : List (List X)) (c : Corner) (o : Optio
 stands_in_some polygons c None e h = cc
 stands_in_some polygons c (Some x) e h = stands_in_at polygons c x e
 
-stands_in : {X : Type 0} (polygons : List (List X)) (c : Corner) → HasSide polygons c → StandsIn polygons c
+pub stands_in : {X : Type 0} (polygons : List (List X)) (c : Corner) → HasSide polygons c → StandsIn polygons c
 stands_in polygons c h = stands_in_some polygons c (at_side polygons c) refl h
 
 some_at : {X : Type 0} (polygon : List X) (k : ℕ) → k < length polygon → IsSome (slice_get polygon k)
