@@ -41,7 +41,7 @@ stands_in_by : {X : Type 0} (polygons : List (List X)) (c : Corner) (x : X) (o :
 stands_in_by polygons c x None is e = cc
 stands_in_by polygons c x (Some polygon) is e = record { polygon = polygon; is = is; inside = slice_get_within polygon c.side x e }
 
-stands_in_at : {X : Type 0} (polygons : List (List X)) (c : Corner) (x : X) → at_side polygons c ≡ Some x → StandsIn polygons c
+pub stands_in_at : {X : Type 0} (polygons : List (List X)) (c : Corner) (x : X) → at_side polygons c ≡ Some x → StandsIn polygons c
 stands_in_at polygons c x e = stands_in_by polygons c x (slice_get polygons c.polygon) refl e
 
 stands_in_some : {X : Type 0} (polygons : List (List X)) (c : Corner) (o : Option X) → at_side polygons c ≡ o → IsSome o → StandsIn polygons c

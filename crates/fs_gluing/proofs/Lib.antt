@@ -1,2 +1,4 @@
+pub mod Checks
+pub mod Search
 pub mod Corners
 pub mod Places
