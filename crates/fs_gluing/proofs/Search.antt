@@ -1,19 +1,25 @@
 -- The search through glued sides.
-use Rattle.std.proofs.Common.{◌≡◌, ◌↔◌, ◌⊎◌, inl, inr, ℕ, zero, suc, ◌+◌, ◌<◌, ◌≤◌, Bool, true, false, not, cond, List, [], ◌∷◌, ◌++◌, Option, Some, None, length, map, take, get_or, set, replicate, count_by, sym, ap, ◌∙◌, refl, subst, arith}
+use Rattle.std.proofs.Common.{◌≡◌, ◌↔◌, ◌⊎◌, inl, inr, ℕ, zero, suc, ◌+◌, ◌-◌, ◌<◌, ◌≤◌, Bool, true, false, not, cond, List, [], ◌∷◌, ◌++◌, Option, Some, None, length, map, take, get_or, set, replicate, count_by, sym, ap, ◌∙◌, refl, subst, arith}
 use Rattle.std.proofs.lemmas.Bool.{cases_lt, cases_eq}
-use Rattle.std.proofs.lemmas.List.{get_or_default, get_or_past, get_or-set_same, get_or-set_other, get_or-replicate, length-map, length-replicate, length-set, length-append, take_more, map-append}
+use Rattle.std.proofs.lemmas.List.{append-nil, get_or_default, get_or_past, get_or-set_same, get_or-set_other, get_or-replicate, length-map, length-replicate, length-set, length-append, take_more, map-append}
 use Rattle.std.proofs.lemmas.List.Elements.{All-from_recursion, All-get_or, Contains-append_left, Contains-push, Contains-push_cases}
 use Rattle.std.proofs.lemmas.List.Sums.{sum_by-set}
-use Rattle.std.proofs.lemmas.Option.{slice_get-map, slice_get_within, get_or_from_slice_get, slice_get_cases}
+use Rattle.std.proofs.lemmas.Option.{slice_get-map, slice_get_within, get_or_from_slice_get, slice_get_cases, slice_get_read}
 use Rattle.std.specs.Bool.{IsTrue}
 use Rattle.std.specs.Option.{option_map, option_and_then}
-use Rattle.std.specs.List.{AllByRecursion, Contains, slice_get}
+use Rattle.std.specs.List.{AllByRecursion, Contains, slice_get, range_with_len}
 use Rattle.fs_plane.specs.declared.corners.Corner.{Corner}
 use Rattle.fs_gluing.specs.declared.surfaces.Side.{Side}
+use Rattle.fs_gluing.specs.declared.faults.Fault.TheVariants.{Apart}
+use Rattle.fs_gluing.specs.declared.faults.BuildStop.TheVariants.{Fault}
+use Rattle.fs_gluing.specs.Checks.{PassesBefore, AnswersFirst}
+use Rattle.fs_gluing.specs.FirstFault.{answer}
+use Rattle.fs_gluing.specs.FirstFault.Test.{Reached}
 use Rattle.fs_gluing.specs.Marks.{IsMarked, Marks, MarksReached, partner_polygons}
 use Rattle.fs_gluing.specs.Polygons.{at_side}
 use Rattle.fs_gluing.specs.Reached.{IsReached}
 use Rattle.fs_gluing.specs.Surface.{AreNeighbours, IsGlued}
+use Rattle.fs_gluing.proofs.Checks.{passes_before_none, passes_before_more, passes_before_same, all_from_passes_before, answers_first_of_rest, answers_first_of_head}
 use Rattle.fs_gluing.proofs.Corners.{StandsIn, stands_in_at}
 
 bool_cases : (b : Bool) → IsTrue b ⊎ (¬ IsTrue b)
@@ -227,16 +233,21 @@ search_more polygons k polygon marks more waiting rest longer there is s m =
       ];
     }
 
+none_waits : (waiting rest : List ℕ) (n : ℕ) → waiting ≡ rest ++ [] → rest ≡ take (n - 1) waiting → n ≡ 0 → waiting ≡ []
+none_waits waiting rest n is rest_is none = is ∙ append-nil rest ∙ rest_is ∙ ap (λ m. take (m - 1) waiting) none
+
 -- where none waits, the marked ones are closed under steps
-pub search_all : (polygons : List (List Side)) (marks : List Bool) (waiting : List ℕ) → waiting ≡ [] → Searches polygons marks waiting → MarksReached polygons marks
-search_all polygons marks waiting none s = record {
-  long = s.long;
-  exact = λ k. (
-    s.reached k,
-    (λ r. r (λ j. get_or marks j false) s.first
-      (λ i j step held. elim (s.closed i j held step) [ inl c ↦ absurd (not_in_none i (subst (λ w. Contains w i) none c)) | inr h ↦ h ])),
-  );
-}
+pub search_all : (polygons : List (List Side)) (marks : List Bool) (waiting rest : List ℕ) (n : ℕ) → waiting ≡ rest ++ [] → rest ≡ take (n - 1) waiting → n ≡ 0 → Searches polygons marks waiting → MarksReached polygons marks
+search_all polygons marks waiting rest n is rest_is none s =
+    let empty = none_waits waiting rest n is rest_is none in
+    record {
+      long = s.long;
+      exact = λ k. (
+        s.reached k,
+        (λ r. r (λ j. get_or marks j false) s.first
+          (λ i j step held. elim (s.closed i j held step) [ inl c ↦ absurd (not_in_none i (subst (λ w. Contains w i) empty c)) | inr h ↦ h ])),
+      );
+    }
 
 all_from_each : {X : Type 0} (P : X → Type 0) (xs : List X) → ((j : ℕ) (x : X) → slice_get xs j ≡ Some x → P x) → AllByRecursion P xs
 all_from_each P [] h = tt
@@ -251,3 +262,63 @@ partners_inside polygons k polygon n there is glued =
     let back = (glued c side (ap (option_and_then (λ (p : List Side). slice_get p j)) there ∙ at)).back in
     let s = stands_in_at polygons side.partner _ back in
     omega (arith, is, slice_get_within polygons side.partner.polygon s.polygon s.is))
+
+-- the steps of the loop
+
+pub search_begins : (polygons : List (List Side)) (n : ℕ) (marks : List Bool) (none waiting : List ℕ) → marks ≡ replicate n false → n ≡ length polygons → 0 < length polygons
+    → none ≡ [] → waiting ≡ none ++ 0 ∷ [] → Searches polygons (set marks 0 true) waiting
+search_begins polygons n marks none waiting marks_are is some none_is waiting_is =
+    subst (λ w. Searches polygons (set marks 0 true) w) (sym (waiting_is ∙ ap (λ w. w ++ 0 ∷ []) none_is))
+    (subst (λ m. Searches polygons (set m 0 true) (0 ∷ [])) (sym marks_are) (search_none polygons n is (omega (arith, is, some))))
+
+pub waits_inside : (polygons : List (List Side)) (k : ℕ) (marks : List Bool) (waiting rest : List ℕ) → waiting ≡ rest ++ k ∷ [] → Searches polygons marks waiting → k < length polygons
+waits_inside polygons k marks waiting rest is s =
+    let l = marked_within marks k (s.wait k (subst (λ w. Contains w k) (sym is) (Contains-push rest k))) in
+    omega (arith, l, s.long)
+
+-- the polygon that is read where it waits
+pub waiting_polygon : (polygons rows : List (List Side)) (k : ℕ) (item polygon : List Side) (marks : List Bool) (waiting rest : List ℕ) → waiting ≡ rest ++ k ∷ [] → Searches polygons marks waiting
+    → rows ≡ polygons → item ≡ get_or rows k item → polygon ≡ item → slice_get polygons k ≡ Some polygon
+waiting_polygon polygons rows k item polygon marks waiting rest is s same read polygon_is =
+    slice_get_read polygons (length polygons) k item refl (waits_inside polygons k marks waiting rest is s) (read ∙ ap (λ ps. get_or ps k item) same) ∙ ap (λ p. Some p) (sym polygon_is)
+
+pub search_falls : (polygons : List ℕ) (k : ℕ) (marks more : List Bool) (waiting rest longer : List ℕ) → waiting ≡ rest ++ k ∷ [] → Marks polygons marks more rest longer
+    → length longer + count_by not more < length waiting + count_by not marks
+search_falls polygons k marks more waiting rest longer is m = omega (arith, m.count, ap length is, length-append rest (k ∷ []))
+
+-- ---- the marks in the order of the polygons
+
+-- the polygons before polygon i are reached
+abbrev pub ReachesBefore : List (List Side) → ℕ → Type 0
+ReachesBefore polygons i = PassesBefore (IsReached (AreNeighbours polygons)) (range_with_len 0 (length polygons)) (range_with_len i (length polygons - i))
+
+pub reached_none : (polygons : List (List Side)) → ReachesBefore polygons 0
+reached_none polygons =
+    let same : length polygons ≡ length polygons - 0 = omega arith in
+    passes_before_none _ _ _ (ap (range_with_len 0) same)
+
+range_more : (i n : ℕ) → i < n → range_with_len i (n - i) ≡ i ∷ range_with_len (i + 1) (n - (i + 1))
+range_more i n l =
+    let more : n - i ≡ suc (n - (i + 1)) = omega arith in
+    ap (range_with_len i) more
+
+next_reached : (polygons : List (List Side)) (marks : List Bool) (i : ℕ) → MarksReached polygons marks → i < length marks → ReachesBefore polygons i
+    → PassesBefore (IsReached (AreNeighbours polygons)) (range_with_len 0 (length polygons)) (i ∷ range_with_len (i + 1) (length polygons - (i + 1)))
+next_reached polygons marks i m l b = passes_before_same _ _ _ _ (range_more i (length polygons) (omega (arith, l, m.long))) b
+
+pub reached_more : (polygons : List (List Side)) (marks : List Bool) (i : ℕ) (b : Bool) → MarksReached polygons marks → i < length marks → b ≡ get_or marks i b → b ≡ true
+    → ReachesBefore polygons i → ReachesBefore polygons (i + 1)
+reached_more polygons marks i b m l read is before =
+    passes_before_more _ _ (i ∷ []) _ (next_reached polygons marks i m l before) ((m.exact i).0 (get_or_default marks i false b l ∙ sym read ∙ is), tt)
+
+pub reached_all : (polygons : List (List Side)) (n : ℕ) → n ≡ length polygons → ReachesBefore polygons n → AllByRecursion (IsReached (AreNeighbours polygons)) (range_with_len 0 (length polygons))
+reached_all polygons n is before =
+    let none : length polygons - n ≡ 0 = omega arith in
+    all_from_passes_before _ _ (passes_before_same _ _ _ _ (ap (range_with_len n) none) before)
+
+pub apart_first : (polygons : List (List Side)) (marks : List Bool) (i : ℕ) (b : Bool) → MarksReached polygons marks → i < length marks → b ≡ get_or marks i b → b ≡ false
+    → ReachesBefore polygons i → AnswersFirst (IsReached (AreNeighbours polygons)) (range_with_len 0 (length polygons)) (λ i. answer (Reached i)) (Fault (Apart i))
+apart_first polygons marks i b m l read is before =
+    answers_first_of_rest _ _ _ _ _ (next_reached polygons marks i m l before)
+    (answers_first_of_head _ _ _ _ _ refl
+    (λ r. let both : false ≡ true = sym is ∙ read ∙ get_or_default marks i b false l ∙ (m.exact i).1 r in cc))
