@@ -19,7 +19,7 @@ use Rattle.fs_gluing.specs.Marks.{IsMarked, Marks, MarksReached, partner_polygon
 use Rattle.fs_gluing.specs.Polygons.{at_side}
 use Rattle.fs_gluing.specs.Reached.{IsReached}
 use Rattle.fs_gluing.specs.Surface.{AreNeighbours, IsGlued}
-use Rattle.fs_gluing.proofs.Checks.{passes_before_none, passes_before_more, passes_before_same, all_from_passes_before, answers_first_of_rest, answers_first_of_head}
+use Rattle.fs_gluing.proofs.Checks.{passes_before_none, passes_before_more, passes_before_same, answers_first_of_rest, answers_first_of_head}
 use Rattle.fs_gluing.proofs.Corners.{StandsIn, stands_in_at}
 
 bool_cases : (b : Bool) → IsTrue b ⊎ (¬ IsTrue b)
@@ -304,21 +304,17 @@ range_more i n l =
 
 next_reached : (polygons : List (List Side)) (marks : List Bool) (i : ℕ) → MarksReached polygons marks → i < length marks → ReachesBefore polygons i
     → PassesBefore (IsReached (AreNeighbours polygons)) (range_with_len 0 (length polygons)) (i ∷ range_with_len (i + 1) (length polygons - (i + 1)))
-next_reached polygons marks i m l b = passes_before_same _ _ _ _ (range_more i (length polygons) (omega (arith, l, m.long))) b
+next_reached polygons marks i m l before = passes_before_same _ _ _ _ (range_more i (length polygons) (omega (arith, l, m.long))) before
 
-pub reached_more : (polygons : List (List Side)) (marks : List Bool) (i : ℕ) (b : Bool) → MarksReached polygons marks → i < length marks → b ≡ get_or marks i b → b ≡ true
-    → ReachesBefore polygons i → ReachesBefore polygons (i + 1)
-reached_more polygons marks i b m l read is before =
-    passes_before_more _ _ (i ∷ []) _ (next_reached polygons marks i m l before) ((m.exact i).0 (get_or_default marks i false b l ∙ sym read ∙ is), tt)
+pub reached_more : (polygons : List (List Side)) (marks read : List Bool) (i : ℕ) → MarksReached polygons marks → read ≡ marks → i < length read → IsMarked read i → ReachesBefore polygons i → ReachesBefore polygons (i + 1)
+reached_more polygons marks read i m same l marked before =
+    let n : MarksReached polygons read = subst (MarksReached polygons) (sym same) m in
+    passes_before_more _ _ (i ∷ []) _ (next_reached polygons read i n l before) ((n.exact i).0 marked, tt)
 
-pub reached_all : (polygons : List (List Side)) (n : ℕ) → n ≡ length polygons → ReachesBefore polygons n → AllByRecursion (IsReached (AreNeighbours polygons)) (range_with_len 0 (length polygons))
-reached_all polygons n is before =
-    let none : length polygons - n ≡ 0 = omega arith in
-    all_from_passes_before _ _ (passes_before_same _ _ _ _ (ap (range_with_len n) none) before)
-
-pub apart_first : (polygons : List (List Side)) (marks : List Bool) (i : ℕ) (b : Bool) → MarksReached polygons marks → i < length marks → b ≡ get_or marks i b → b ≡ false
-    → ReachesBefore polygons i → AnswersFirst (IsReached (AreNeighbours polygons)) (range_with_len 0 (length polygons)) (λ i. answer (Reached i)) (Fault (Apart i))
-apart_first polygons marks i b m l read is before =
-    answers_first_of_rest _ _ _ _ _ (next_reached polygons marks i m l before)
-    (answers_first_of_head _ _ _ _ _ refl
-    (λ r. let both : false ≡ true = sym is ∙ read ∙ get_or_default marks i b false l ∙ (m.exact i).1 r in cc))
+-- polygon i is the first that isn't reached
+pub apart_first : (polygons : List (List Side)) (marks read : List Bool) (i : ℕ) → MarksReached polygons marks → read ≡ marks → i < length read → get_or read i false ≡ false → ReachesBefore polygons i
+    → AnswersFirst (IsReached (AreNeighbours polygons)) (range_with_len 0 (length polygons)) (λ i. answer (Reached i)) (Fault (Apart i))
+apart_first polygons marks read i m same l unmarked before =
+    let n : MarksReached polygons read = subst (MarksReached polygons) (sym same) m in
+    answers_first_of_rest _ _ _ _ _ (next_reached polygons read i n l before)
+    (answers_first_of_head _ _ _ _ _ refl (λ r. let both : false ≡ true = sym unmarked ∙ (n.exact i).1 r in cc))
