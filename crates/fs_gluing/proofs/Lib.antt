@@ -8,5 +8,8 @@ pub mod Pairs
 pub mod Lines
 pub mod Rows
 pub mod EachPolygon
+pub mod Places
+pub mod Corners
+pub mod Search
 pub mod Glued
 pub mod Judged

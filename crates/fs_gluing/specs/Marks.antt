@@ -1,12 +1,25 @@
--- Which polygons are marked as reached.
-use Rattle.std.specs.Prelude.{◌≡◌, ℕ, Bool, true, false, List, Some, length}
-use Rattle.std.specs.List.{slice_get}
+-- The search through glued sides: which polygons are marked as reached, and which wait to be visited.
+use Rattle.std.specs.Prelude.{◌≡◌, ◌↔◌, ◌⊎◌, ℕ, ◌+◌, Bool, false, not, IsTrue, List, Contains, length, map, count_by, slice_index_or}
 use Rattle.fs_gluing.specs.declared.surfaces.Side.{Side}
 use Rattle.fs_gluing.specs.Reached.{IsReached}
 use Rattle.fs_gluing.specs.Surface.{AreNeighbours}
 
+-- polygon k is marked
+abbrev pub IsMarked : List Bool → ℕ → Type 0
+IsMarked marks k = IsTrue (slice_index_or marks k false)
+
+-- the polygons that these sides are glued to
+abbrev pub partner_polygons : List Side → List ℕ
+partner_polygons sides = map (λ side. side.partner.polygon) sides
+
+-- these polygons are marked too, and those of them that weren't wait as well
+pub record Marks (polygons : List ℕ) (marks more : List Bool) (waiting longer : List ℕ) : Type 0 where
+  pub long : length more ≡ length marks
+  pub marked : (k : ℕ) → IsMarked more k ↔ (IsMarked marks k ⊎ Contains polygons k)
+  pub wait : (k : ℕ) → Contains longer k ↔ (Contains waiting k ⊎ (IsMarked more k × (¬ IsMarked marks k)))
+  pub count : length longer + count_by not more ≡ length waiting + count_by not marks
+
 -- each polygon has a mark, which tells whether it is reached from polygon 0
 pub record MarksReached (polygons : List (List Side)) (marks : List Bool) : Type 0 where
   pub long : length marks ≡ length polygons
-  pub reached : (k : ℕ) → slice_get marks k ≡ Some true → IsReached (AreNeighbours polygons) k
-  pub apart : (k : ℕ) → slice_get marks k ≡ Some false → ¬ IsReached (AreNeighbours polygons) k
+  pub exact : (k : ℕ) → IsMarked marks k ↔ IsReached (AreNeighbours polygons) k

@@ -48,7 +48,7 @@ impl Surface {
     ghost use Rattle.fs_gluing.specs.Places.{all_places};
     ghost use Rattle.fs_gluing.specs.Polygons.{at_side, HasSide};
     ghost use Rattle.fs_gluing.specs.Surface.{IsSurface, side_vectors};
-    ghost use Rattle.fs_gluing.specs.Turning.{TurnsTo, AreOnePoint};
+    ghost use Rattle.fs_gluing.specs.Turning.{TurnsTo, AreOnePoint, side_before};
 
     /// The surface of these glued polygons, the corners of which have these places.
     pub(crate) fn new(
@@ -152,14 +152,23 @@ impl Surface {
         // It keeps the vertex.
         ensures vertex { AreOnePoint self.now.polygons c result }
     {
-        let before = match c.side {
+        let _ = &self.polygons;
+        self.partner(self.side_before(c))
+    }
+
+    // The side that ends at a corner.
+    fn side_before(&self, c: Corner) -> Corner
+        requires { HasSide self.now.polygons c }
+        ensures { result ≡ side_before self.now.polygons c }
+    {
+        let side = match c.side {
             0 => self.sides(c.polygon) - 1,
             side => side - 1,
         };
-        self.partner(Corner {
+        Corner {
             polygon: c.polygon,
-            side: before,
-        })
+            side,
+        }
     }
 
     // What stands at a side.
