@@ -1,22 +1,21 @@
 -- The glued polygons: what stands at their sides, and that they are a surface.
-use Rattle.std.proofs.Common.{◌≡◌, ◌≢◌, ◌⊎◌, inl, inr, ℕ, ◌+◌, ◌<◌, ◌≤◌, pos, Option, Some, None, List, [], ◌∷◌, ◌++◌, length, sum_by, sym, ap, ◌∙◌, refl, subst, map, unwrap_or, arith, suc, zero}
+use Rattle.std.proofs.Common.{◌≡◌, ◌≢◌, inl, inr, ℕ, ◌+◌, ◌<◌, ◌≤◌, pos, Option, Some, None, List, [], ◌∷◌, ◌++◌, length, sum_by, sym, ap, ◌∙◌, refl, subst, map, unwrap_or, arith, suc, zero}
 use Rattle.std.proofs.lemmas.List.Sums.{sum_by-cons}
 use Rattle.std.specs.Option.{IsSome, option_map, option_and_then}
-use Rattle.std.specs.List.{AllByRecursion, slice_get, range_with_len}
+use Rattle.std.specs.List.{AllByRecursion, slice_get}
 use Rattle.fs_quadratic.specs.Radicand.{IsRadicand}
 use Rattle.fs_quadratic.proofs.Firsts.{All-back, All-front}
 use Rattle.fs_plane.specs.declared.corners.Corner.{Corner}
 use Rattle.fs_plane.specs.declared.vector.V2.{V2}
-use Rattle.fs_plane.specs.Vector.{vector_zero, vector_neg, vector_total}
+use Rattle.fs_plane.specs.Vector.{vector_neg}
 use Rattle.fs_gluing.specs.declared.shapes.Glue.{Glue}
 use Rattle.fs_gluing.specs.declared.surfaces.Side.{Side}
 use Rattle.fs_gluing.specs.Convex.{Bend, TurnsLeft, bends}
-use Rattle.fs_gluing.specs.Places.{all_places}
 use Rattle.fs_gluing.specs.Polygons.{HasSide, at_side, all_sides, sides_from}
 use Rattle.fs_gluing.specs.Reached.{IsReached}
-use Rattle.fs_gluing.specs.Shape.{AreGlued, glued_sides}
-use Rattle.fs_gluing.specs.Surface.{GluedPolygons, side_vectors, IsPolygon, AreNeighbours, IsGlued, IsSurface}
-use Rattle.fs_gluing.specs.FirstFault.{Closes, Once, PassesIn, polygon_tests, walk_tests, corner_tests, Polygon, Passes, PassesLine, line_tests, Present, Single, Opposite, AreOpposite, Joins, tests_from, Test}
+use Rattle.fs_gluing.specs.Shape.{AreGlued}
+use Rattle.fs_gluing.specs.Surface.{side_vectors, IsPolygon, AreNeighbours, IsGlued, IsSurface}
+use Rattle.fs_gluing.specs.FirstFault.{Closes, Once, PassesIn, polygon_tests, walk_tests, corner_tests, Polygon, Passes, PassesLine, line_tests, AreOpposite, Joins, tests_from, Test}
 use Rattle.fs_gluing.specs.Gluing.{ArePartners, IsPairOf, sides_between, glued_row, glued_rows}
 use Rattle.fs_gluing.proofs.Lines.{lines_hold}
 use Rattle.fs_gluing.proofs.Pairs.{partner_back, pair_other, pair_opposite}
@@ -166,6 +165,16 @@ pub record IsPaired (d : ℕ) (polygons : List (List V2)) (glues : List Glue) (p
   pub lines : AllByRecursion (PassesLine polygons) (line_tests [] glues)
   pub partners : ArePartners glues p
   pub sides : AllByRecursion (λ c. IsSome (p c)) (all_sides polygons)
+
+-- the same where the lines were read from a list of their own
+pub paired_by : (d : ℕ) (polygons : List (List V2)) (read glues : List Glue) (p : Corner → Option Corner) → read ≡ glues → ((gs : List Glue) → AllByRecursion (Passes d polygons gs) (tests_from 0 polygons))
+    → AllByRecursion (PassesLine polygons) (line_tests [] read) → ArePartners read p → AllByRecursion (λ c. IsSome (p c)) (all_sides polygons) → IsPaired d polygons glues p
+paired_by d polygons read glues p same each lines partners sides = record {
+  each = each glues;
+  lines = subst (λ (gs : List Glue). AllByRecursion (PassesLine polygons) (line_tests [] gs)) same lines;
+  partners = subst (λ (gs : List Glue). ArePartners gs p) same partners;
+  sides = sides;
+}
 
 some_opposite : (v : V2) (o : Option V2) → AreOpposite (Some v) o → o ≡ Some (vector_neg v)
 some_opposite v None h = absurd h

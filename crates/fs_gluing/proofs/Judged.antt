@@ -1,5 +1,5 @@
 -- What a judge of a shape answers: the first failed test, or the surface.
-use Rattle.std.proofs.Common.{◌≡◌, ◌⊎◌, inl, inr, ℕ, ◌+◌, ◌<◌, ◌≤◌, pos, Option, Some, Result, Ok, Err, List, [], ◌∷◌, ◌++◌, length, sym, ap, ◌∙◌, refl, subst, map, arith, zero, suc}
+use Rattle.std.proofs.Common.{◌≡◌, ◌⊎◌, inl, inr, ℕ, ◌+◌, ◌<◌, ◌≤◌, pos, Option, Some, Result, Ok, Err, List, [], ◌++◌, length, sum_by, sym, ap, ◌∙◌, refl, subst, map, arith, zero, suc}
 use Rattle.std.specs.Option.{IsSome}
 use Rattle.std.specs.List.{AllByRecursion, Contains, range_with_len}
 use Rattle.fs_quadratic.specs.Radicand.{IsRadicand}
@@ -12,16 +12,16 @@ use Rattle.fs_gluing.specs.declared.surfaces.Side.{Side}
 use Rattle.fs_gluing.specs.declared.faults.BuildStop.{BuildStop}
 use Rattle.fs_gluing.specs.declared.faults.BuildStop.TheVariants.{NoMemory}
 use Rattle.fs_gluing.specs.Places.{all_places}
-use Rattle.fs_gluing.specs.Polygons.{all_sides}
+use Rattle.fs_gluing.specs.Polygons.{at_side, all_sides}
 use Rattle.fs_gluing.specs.Reached.{IsReached}
-use Rattle.fs_gluing.specs.Shape.{IsWithinLimits, HasShape, polygons_of, glued_sides}
-use Rattle.fs_gluing.specs.Surface.{GluedPolygons, side_vectors, AreNeighbours, IsSurface}
-use Rattle.fs_gluing.specs.FirstFault.{PassesOf, PassesLine, line_tests, Line, Glued, Reached, Joins, tests_from, tests_of, Test, answer, IsFirstFailure, Judges}
+use Rattle.fs_gluing.specs.Shape.{IsWithinLimits, polygons_of, glued_sides}
+use Rattle.fs_gluing.specs.Surface.{GluedPolygons, side_vectors, AreNeighbours, IsGlued, IsSurface}
+use Rattle.fs_gluing.specs.FirstFault.{Passes, PassesOf, PassesLine, line_tests, Line, Glued, Reached, Joins, tests_from, tests, tests_of, Test, answer, IsFirstFailure, Judges}
 use Rattle.fs_gluing.specs.Gluing.{ArePartners, glued_rows}
 use Rattle.fs_gluing.specs.Checks.{AnswersFirst}
 use Rattle.fs_gluing.proofs.Checks.{All-weaker, answers_first_of_map, answers_first_of_same}
-use Rattle.fs_gluing.proofs.EachPolygon.{shape_count, shape_sides}
-use Rattle.fs_gluing.proofs.Glued.{IsPaired, rows_vectors, rows_length, neighbours_joined, joined_neighbours, lines_are_glued, is_surface}
+use Rattle.fs_gluing.proofs.EachPolygon.{shape_count, shape_sides, short_polygons}
+use Rattle.fs_gluing.proofs.Glued.{IsPaired, rows_vectors, rows_length, rows_are_glued, neighbours_joined, joined_neighbours, lines_are_glued, is_surface}
 use Rattle.fs_gluing.proofs.Lines.{answer_line}
 use Rattle.fs_gluing.proofs.Pairs.{listed_has_partner, listed_from_partner}
 
@@ -35,18 +35,17 @@ all_in_range P i zero k a l = absurd (omega arith)
 all_in_range P i (suc n) zero a l = let same : i ≡ i + 0 = omega arith in subst P same a.0
 all_in_range P i (suc n) (suc k) a l = let same : i + 1 + k ≡ i + suc k = omega arith in subst P same (all_in_range P (i + 1) n k a.1 (omega arith))
 
-module _ (d : ℕ) (shape : Shape) where
-  abbrev polygons : List (List V2)
-  polygons = polygons_of shape
-
+module _ (d : ℕ) (shape : Shape) (polygons : List (List V2)) (taken : polygons ≡ polygons_of shape) where
   abbrev P : Test → Type 0
-  P = PassesOf d shape
+  P = Passes d polygons shape.glues
 
   abbrev Failed : List Test → BuildStop → Type 0
   Failed ts e = AnswersFirst P ts answer e
 
-  judged_by : (e : BuildStop) → Failed (tests_of shape) e → Judges d shape (Err e)
-  judged_by e a = inr (a.test, a.first, a.is)
+  judged_by : (e : BuildStop) → Failed (tests polygons shape.glues) e → Judges d shape (Err e)
+  judged_by e f =
+      let a = subst (λ ps. AnswersFirst (Passes d ps shape.glues) (tests ps shape.glues) answer e) taken f in
+      inr (a.test, a.first, a.is)
 
   of_front : (xs ys : List Test) (e : BuildStop) → Failed xs e → Failed (xs ++ ys) e
   of_front xs ys e a = record { test = a.test; first = first_of_front P xs ys a.test a.first; is = a.is }
@@ -54,8 +53,8 @@ module _ (d : ℕ) (shape : Shape) where
   of_back : (xs ys : List Test) (e : BuildStop) → AllByRecursion P xs → Failed ys e → Failed (xs ++ ys) e
   of_back xs ys e passed a = record { test = a.test; first = first_of_back P xs ys a.test passed a.first; is = a.is }
 
-  pub judged_at_polygons : (e : BuildStop) → (e ≡ NoMemory) ⊎ Failed (tests_from 0 polygons) e → Judges d shape (Err e)
-  judged_at_polygons e h = elim h [ inl memory ↦ inl memory | inr a ↦ judged_by e (of_front _ _ e a) ]
+  pub judged_at_polygons : (e : BuildStop) → (e ≡ NoMemory) ⊎ ((glues : List Glue) → AnswersFirst (Passes d polygons glues) (tests_from 0 polygons) answer e) → Judges d shape (Err e)
+  judged_at_polygons e h = elim h [ inl memory ↦ inl memory | inr a ↦ judged_by e (of_front _ _ e (a shape.glues)) ]
 
   pub judged_at_lines : (e : BuildStop) → AllByRecursion P (tests_from 0 polygons)
       → (e ≡ NoMemory) ⊎ AnswersFirst (PassesLine polygons) (line_tests [] shape.glues) answer_line e → Judges d shape (Err e)
@@ -72,9 +71,18 @@ module _ (d : ℕ) (shape : Shape) where
   judged_at_sides p e each lines partners h = elim h [
     | inl memory ↦ inl memory
     | inr a ↦ judged_by e (of_back _ _ e each (of_back _ _ e (lines_pass lines) (of_front _ _ e (answers_first_of_map Glued P (all_sides polygons) answer e
-          (answers_first_of_same (λ c. IsSome (p c)) (Contains (glued_sides shape.glues)) (all_sides polygons) (λ c. answer (Glued c)) e
-          (λ c. listed_from_partner shape.glues p c partners) (λ c. listed_has_partner shape.glues p c partners) a)))))
+        (answers_first_of_same (λ c. IsSome (p c)) (Contains (glued_sides shape.glues)) (all_sides polygons) (λ c. answer (Glued c)) e
+        (λ c. listed_from_partner shape.glues p c partners) (λ c. listed_has_partner shape.glues p c partners) a)))))
   ]
+
+  counted : length polygons ≡ length shape.polygons
+  counted = ap length taken ∙ shape_count shape
+
+  summed : sum_by length polygons ≡ sum_by length shape.polygons
+  summed = ap (sum_by length) taken ∙ shape_sides shape
+
+  pub short : IsWithinLimits shape → AllByRecursion (λ polygon. length polygon ≤ 1024) polygons
+  short limits = subst (AllByRecursion (λ polygon. length polygon ≤ 1024)) (sym taken) (short_polygons shape limits)
 
   module _ (p : Corner → Option Corner) (h : IsPaired d polygons shape.glues p) where
     abbrev rows : List (List Side)
@@ -92,9 +100,6 @@ module _ (d : ℕ) (shape : Shape) where
     sides_pass : AllByRecursion P (map Glued (all_sides polygons))
     sides_pass = All-map Glued P (all_sides polygons) (All-weaker (λ c. IsSome (p c)) (Contains (glued_sides shape.glues)) (λ c. listed_from_partner shape.glues p c h.partners) (all_sides polygons) h.sides)
 
-    same_range : length rows ≡ length shape.polygons
-    same_range = rows_length p 0 polygons ∙ shape_count shape
-
     -- the numbers of the polygons, counted by their rows
     abbrev numbers : List ℕ
     numbers = range_with_len 0 (length rows)
@@ -105,22 +110,37 @@ module _ (d : ℕ) (shape : Shape) where
       | inr a ↦
           let joined : AnswersFirst (IsReached (Joins shape.glues)) numbers (λ i. answer (Reached i)) e = answers_first_of_same Near (IsReached (Joins shape.glues)) numbers (λ i. answer (Reached i)) e near_joined joined_near a in
           judged_by e (of_back _ _ e h.each (of_back _ _ e (lines_pass h.lines) (of_back _ _ e sides_pass
-              (subst (λ n. Failed (map Reached (range_with_len 0 n)) e) (same_number) (answers_first_of_map Reached P numbers answer e joined)))))
+          (subst (λ n. Failed (map Reached (range_with_len 0 n)) e) (rows_length p 0 polygons) (answers_first_of_map Reached P numbers answer e joined)))))
     ]
-      where
-        same_number : length rows ≡ length polygons
-        same_number = rows_length p 0 polygons
 
-    all_pass : AllByRecursion Near numbers → AllByRecursion P (tests_of shape)
-    all_pass near = All-append P _ _ h.each (All-append P _ _ (lines_pass h.lines) (All-append P _ _ sides_pass
+    all_pass : AllByRecursion Near numbers → AllByRecursion (PassesOf d shape) (tests_of shape)
+    all_pass near = subst (λ ps. AllByRecursion (Passes d ps shape.glues) (tests ps shape.glues)) taken (All-append P _ _ h.each (All-append P _ _ (lines_pass h.lines) (All-append P _ _ sides_pass
         (subst (λ n. AllByRecursion P (map Reached (range_with_len 0 n))) (rows_length p 0 polygons)
-        (All-map Reached P numbers (All-weaker Near (IsReached (Joins shape.glues)) near_joined numbers near)))))
+        (All-map Reached P numbers (All-weaker Near (IsReached (Joins shape.glues)) near_joined numbers near))))))
+
+    pub some_rows : (polygons' : List (List Side)) → polygons' ≡ rows → IsWithinLimits shape → 0 < length polygons'
+    some_rows polygons' is limits = subst (λ n. 0 < n) (sym (ap length is ∙ rows_length p 0 polygons ∙ counted)) limits.some_polygon
+
+    pub few_rows : (polygons' : List (List Side)) → polygons' ≡ rows → IsWithinLimits shape → length polygons' ≤ 256
+    few_rows polygons' is limits = subst (λ n. n ≤ 256) (sym (ap length is ∙ rows_length p 0 polygons ∙ counted)) limits.polygons
+
+    pub glued_sides_of : (polygons' : List (List Side)) → polygons' ≡ rows → (c : Corner) (side : Side) → at_side polygons' c ≡ Some side → IsGlued polygons' c side
+    glued_sides_of polygons' is = subst (λ (ps : List (List Side)). (c : Corner) (side : Side) → at_side ps c ≡ Some side → IsGlued ps c side) (sym is) (rows_are_glued d polygons shape.glues p h)
+
+    -- what the search says of polygons that are the rows
+    pub near_rows : (polygons' : List (List Side)) → polygons' ≡ rows → AllByRecursion (IsReached (AreNeighbours polygons')) (range_with_len 0 (length polygons')) → AllByRecursion Near numbers
+    near_rows polygons' is a = subst (λ (ps : List (List Side)). AllByRecursion (IsReached (AreNeighbours ps)) (range_with_len 0 (length ps))) is a
+
+    pub apart_rows : (polygons' : List (List Side)) → polygons' ≡ rows → (e : BuildStop)
+        → (e ≡ NoMemory) ⊎ AnswersFirst (IsReached (AreNeighbours polygons')) (range_with_len 0 (length polygons')) (λ i. answer (Reached i)) e → Judges d shape (Err e)
+    apart_rows polygons' is e k = judged_at_reach e
+        (subst (λ (ps : List (List Side)). (e ≡ NoMemory) ⊎ AnswersFirst (IsReached (AreNeighbours ps)) (range_with_len 0 (length ps)) (λ i. answer (Reached i)) e) is k)
 
     surface : IsRadicand d → IsWithinLimits shape → AllByRecursion Near numbers → IsSurface (record { d = d; den = pos 1; polygons = rows })
     surface radicand limits near = is_surface d polygons shape.glues p h radicand
-        (subst (λ n. 0 < n) (sym (shape_count shape)) limits.some_polygon)
-        (subst (λ n. n ≤ 256) (sym (shape_count shape)) limits.polygons)
-        (subst (λ n. n ≤ 1024) (sym (shape_sides shape)) limits.sides)
+        (subst (λ n. 0 < n) (sym counted) limits.some_polygon)
+        (subst (λ n. n ≤ 256) (sym counted) limits.polygons)
+        (subst (λ n. n ≤ 1024) (sym summed) limits.sides)
         (λ k l. let same : 0 + k ≡ k = omega arith in subst Near same (all_in_range Near 0 (length rows) k near l))
 
     pub surface_is : (polygons' : List (List Side)) → IsRadicand d → IsWithinLimits shape → AllByRecursion Near numbers → polygons' ≡ rows → IsSurface (record { d = d; den = pos 1; polygons = polygons' })
@@ -129,17 +149,17 @@ module _ (d : ℕ) (shape : Shape) where
     pub built : (s : GluedPolygons) → IsRadicand d → IsWithinLimits shape → AllByRecursion Near numbers → s ≡ record { d = d; den = pos 1; polygons = rows } → Judges d shape (Ok s)
     built s radicand limits near is = subst (λ t. Judges d shape (Ok t)) (sym is) (
       surface radicand limits near,
-      record { field = refl; denominator = refl; same_vectors = rows_vectors p 0 polygons; as_the_lines = lines_are_glued d polygons shape.glues p h },
+      record { field = refl; denominator = refl; same_vectors = rows_vectors p 0 polygons ∙ taken; as_the_lines = lines_are_glued d polygons shape.glues p h },
       all_pass near,
     )
 
     pub places_are : (polygons' : List (List Side)) (places : List (List V2)) → places ≡ all_places polygons → polygons' ≡ rows → places ≡ all_places (map side_vectors polygons')
     places_are polygons' places is same = is ∙ ap all_places (sym (rows_vectors p 0 polygons)) ∙ ap (λ (ps : List (List Side)). all_places (map side_vectors ps)) (sym same)
 
-  -- a judge answers the first failure, whichever test that is
-  pub first_from_judged : (r : Result GluedPolygons BuildStop) → Judges d shape r → (test : Test) → IsFirstFailure d shape test → (r ≡ Err NoMemory) ⊎ (r ≡ Err (answer test))
-  first_from_judged (Ok s) j test f = absurd (first_not_all P (tests_of shape) test f j.2)
-  first_from_judged (Err e) j test f = elim j [
-    | inl memory ↦ inl (ap (λ x. Err x) memory)
-    | inr h ↦ inr (ap (λ x. Err x) (h.2 ∙ ap answer (first_unique P (tests_of shape) h.0 test h.1 f)))
-  ]
+-- a judge answers the first failure, whichever test that is
+pub first_from_judged : (d : ℕ) (shape : Shape) (r : Result GluedPolygons BuildStop) → Judges d shape r → (test : Test) → IsFirstFailure d shape test → (r ≡ Err NoMemory) ⊎ (r ≡ Err (answer test))
+first_from_judged d shape (Ok s) j test f = absurd (first_not_all (PassesOf d shape) (tests_of shape) test f j.2)
+first_from_judged d shape (Err e) j test f = elim j [
+  | inl memory ↦ inl (ap (λ x. Err x) memory)
+  | inr h ↦ inr (ap (λ x. Err x) (h.2 ∙ ap answer (first_unique (PassesOf d shape) (tests_of shape) h.0 test h.1 f)))
+]

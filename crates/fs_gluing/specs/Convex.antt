@@ -1,6 +1,5 @@
 -- Closed convex polygons, by their side vectors in the order of a walk round them.
 use Rattle.std.specs.Prelude.{◌≡◌, ℕ, Bool, ◌&&◌, List, [], ◌∷◌, take, count_by}
-use Rattle.std.specs.List.{AllByRecursion}
 use Rattle.fs_quadratic.specs.Ring.{IsPositive}
 use Rattle.fs_plane.specs.declared.vector.V2.{V2}
 use Rattle.fs_plane.specs.Vector.{vector_zero, vector_neg, vector_total, cross, is_upper}

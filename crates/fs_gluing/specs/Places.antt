@@ -1,9 +1,7 @@
 -- The places of the corners of polygons.
-use Rattle.std.specs.Prelude.{ℕ, List, [], ◌∷◌, map}
+use Rattle.std.specs.Prelude.{List, [], ◌∷◌, map}
 use Rattle.fs_plane.specs.declared.vector.V2.{V2}
 use Rattle.fs_plane.specs.Vector.{vector_zero, vector_add}
-use Rattle.fs_gluing.specs.declared.surfaces.Side.{Side}
-use Rattle.fs_gluing.specs.Surface.{side_vectors}
 
 -- the places where sides begin that are walked from one place on
 abbrev pub places_from : V2 → List V2 → List V2

@@ -59,10 +59,8 @@ fn check_glue(
         → AnswersFirst (PassesLine polygons.now) (line_tests earlier (glue.now ∷ [])) (λ test. answer (Line test)) e) }
 {
     let line = glue.line;
-    let (Some(one), Some(two)) = (
-        vector_at(polygons, glue.one),
-        vector_at(polygons, glue.two),
-    ) else {
+    let (Some(one), Some(two)) = (vector_at(polygons, glue.one), vector_at(polygons, glue.two))
+    else {
         return Err(BuildStop::Fault(Fault::NoSuchSide { line }));
     };
     if glue.one == glue.two

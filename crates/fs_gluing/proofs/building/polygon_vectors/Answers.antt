@@ -1,6 +1,3 @@
-use Rattle.std.proofs.Common.{◌≡◌, ◌++◌, ◌∷◌, [], sym, ap, ◌∙◌, take}
-use Rattle.fs_gluing.specs.Shape.{vectors}
-use Rattle.fs_gluing.proofs.Items.{IsItem}
 use Rattle.fs_gluing.proofs.EachPolygon.{vectors_more}
 use Rattle.fs_gluing.proofs.building.polygon_vectors.Goals as goal
 

@@ -1,4 +1,4 @@
-use Rattle.std.proofs.Common.{◌≡◌, ◌≢◌, true, sym, ap, ◌∙◌, refl}
+use Rattle.std.proofs.Common.{sym, ◌∙◌}
 use Rattle.std.specs.BTreeMap.{get}
 use Rattle.fs_gluing.specs.Gluing.{corner_cmp}
 use Rattle.fs_gluing.proofs.Vectors.{one_corner, two_corners, differ_from_ne, same_from_ne}
@@ -31,8 +31,8 @@ returns-then-ne-clause-failed c = λ earlier a.
     let is_two = sym c.vector_at-2.ensures ∙ c.in-Some-Some.is-1 in
     let present = there_by c.args.polygons.now c.args.glue.now c.in-Some-Some.one c.in-Some-Some.two is_one is_two in
     let single = single_by c.args.polygons.now earlier c.args.glue.now (get corner_cmp c.args.partners.now) a
-        (two_corners c.args.glue.now.one c.args.glue.now.two c.eq.result c.eq.ensures c.if-eq.false)
-        (not_some _ (sym c.contains_key.ensures ∙ c.if-contains_key.false)) (not_some _ (sym c.contains_key-else-contains_key.ensures ∙ c.if-contains_key-2.false)) in
+    (two_corners c.args.glue.now.one c.args.glue.now.two c.eq.result c.eq.ensures c.if-eq.false)
+    (not_some _ (sym c.contains_key.ensures ∙ c.if-contains_key.false)) (not_some _ (sym c.contains_key-else-contains_key.ensures ∙ c.if-contains_key-2.false)) in
     let apart = differ_from_ne c.in-Some-Some.two c.neg.result c.ne.result c.ne.ensures c.if-ne.true in
     opposite_fails c.args.polygons.now earlier c.args.glue.now present single
     (λ h. apart (vectors_opposite _ _ c.in-Some-Some.one c.in-Some-Some.two is_one is_two h ∙ sym c.neg.ensures))
@@ -43,7 +43,7 @@ returns-clause-passed c = λ earlier a.
     let is_two = sym c.vector_at-2.ensures ∙ c.in-Some-Some.is-1 in
     let present = there_by c.args.polygons.now c.args.glue.now c.in-Some-Some.one c.in-Some-Some.two is_one is_two in
     let single = single_by c.args.polygons.now earlier c.args.glue.now (get corner_cmp c.args.partners.now) a
-        (two_corners c.args.glue.now.one c.args.glue.now.two c.eq.result c.eq.ensures c.if-eq.false)
-        (not_some _ (sym c.contains_key.ensures ∙ c.if-contains_key.false)) (not_some _ (sym c.contains_key-else-contains_key.ensures ∙ c.if-contains_key-2.false)) in
+    (two_corners c.args.glue.now.one c.args.glue.now.two c.eq.result c.eq.ensures c.if-eq.false)
+    (not_some _ (sym c.contains_key.ensures ∙ c.if-contains_key.false)) (not_some _ (sym c.contains_key-else-contains_key.ensures ∙ c.if-contains_key-2.false)) in
     let same = same_from_ne c.in-Some-Some.two c.neg.result c.ne.result c.ne.ensures c.if-ne.false in
     line_passes c.args.polygons.now earlier c.args.glue.now present single (are_opposite _ _ c.in-Some-Some.one c.in-Some-Some.two is_one is_two (same ∙ c.neg.ensures))

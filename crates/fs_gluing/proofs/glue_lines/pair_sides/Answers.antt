@@ -1,4 +1,4 @@
-use Rattle.std.proofs.Common.{◌≡◌, ◌⊎◌, inl, inr, [], take, refl}
+use Rattle.std.proofs.Common.{◌≡◌, ◌⊎◌, inr, [], take, refl}
 use Rattle.std.specs.BTreeMap.{get}
 use Rattle.std.specs.Result.{IfErr}
 use Rattle.fs_gluing.specs.declared.faults.BuildStop.{BuildStop}
@@ -7,8 +7,8 @@ use Rattle.fs_gluing.specs.FirstFault.{PassesLine, line_tests}
 use Rattle.fs_gluing.specs.Checks.{AnswersFirst}
 use Rattle.fs_gluing.specs.Gluing.{corner_cmp}
 use Rattle.fs_gluing.proofs.Checks.{at_exit}
-use Rattle.fs_gluing.proofs.Items.{IsItem, item_of}
-use Rattle.fs_gluing.proofs.Lines.{no_glue, answer_line, lines_more, line_fails, lines_all}
+use Rattle.fs_gluing.proofs.Items.{item_of}
+use Rattle.fs_gluing.proofs.Lines.{no_glue, answer_line, lines_more, line_fails}
 use Rattle.fs_gluing.proofs.glue_lines.pair_sides.Goals as goal
 
 pub returns-in_err-check_glue-clause-failed : goal.returns-in_err-check_glue-clause-failed

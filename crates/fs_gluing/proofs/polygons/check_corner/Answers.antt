@@ -1,6 +1,4 @@
 use Rattle.std.proofs.Common.{sym, ◌∙◌}
-use Rattle.fs_plane.specs.declared.sites.Place.{Place}
-use Rattle.fs_gluing.specs.Convex.{Bend}
 use Rattle.fs_gluing.proofs.Bends.{greater_from_eq, not_greater_from_eq, corner_turns, corner_straight, corner_stops}
 use Rattle.fs_gluing.proofs.polygons.check_corner.Goals as goal
 

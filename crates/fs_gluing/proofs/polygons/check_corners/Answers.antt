@@ -1,4 +1,3 @@
-use Rattle.std.proofs.Common.{arith}
 use Rattle.std.specs.Result.{IfErr}
 use Rattle.fs_gluing.specs.FirstFault.{PassesIn, corner_tests}
 use Rattle.fs_gluing.specs.Convex.{bends}

@@ -1,6 +1,5 @@
 -- The places that are kept are those of the corners.
-use Rattle.std.proofs.Common.{ap, ◌∙◌, get_or, subst}
-use Rattle.fs_plane.specs.declared.vector.V2.{V2}
+use Rattle.std.proofs.Common.{subst}
 use Rattle.fs_gluing.specs.Surface.{IsSurface}
 use Rattle.fs_gluing.proofs.Corners.{stands_in}
 use Rattle.fs_gluing.proofs.Places.{IsPlaced, row_read, row_long, is_placed, place_is, first_place, next_place}

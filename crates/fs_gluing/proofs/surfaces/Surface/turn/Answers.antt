@@ -1,5 +1,5 @@
 -- Turning is a permutation of the corners that keeps the vertex.
-use Rattle.std.proofs.Common.{sym, ap, subst}
+use Rattle.std.proofs.Common.{sym, subst}
 use Rattle.fs_gluing.specs.Polygons.{HasSide}
 use Rattle.fs_gluing.specs.Surface.{GluedPolygons}
 use Rattle.fs_gluing.specs.Turning.{TurnsTo}
