@@ -1,7 +1,7 @@
 -- Turning from corner to corner round a vertex.
-use Rattle.std.proofs.Common.{◌≡◌, ℕ, zero, suc, ◌+◌, ◌-◌, ◌<◌, ◌≤◌, List, [], ◌∷◌, Option, Some, None, length, if◌then◌else◌, ◌==◌, sym, ap, ◌∙◌, refl, subst, arith}
+use Rattle.std.proofs.Common.{◌≡◌, ℕ, zero, suc, ◌+◌, ◌-◌, ◌<◌, List, [], ◌∷◌, Option, Some, None, length, if◌then◌else◌, ◌==◌, sym, ap, ◌∙◌, refl, subst, arith}
 use Rattle.std.proofs.lemmas.Bool.Decides.{nat_tests}
-use Rattle.std.proofs.lemmas.Option.{slice_get-get_or, slice_get_within, slice_get_cases}
+use Rattle.std.proofs.lemmas.Option.{slice_get_within}
 use Rattle.std.specs.Option.{IsSome, IfSome, option_and_then}
 use Rattle.std.specs.List.{slice_get}
 use Rattle.fs_plane.specs.declared.corners.Corner.{Corner}
@@ -137,8 +137,7 @@ pub turn_onto : (polygons : List (List Side)) → AreGlued polygons → (e : Cor
 turn_onto polygons glued e has =
     let s = stands (at_side polygons e) has in
     let back = (glued e s.value s.is).back in
-    let has_partner = has_some polygons s.value.partner _ back in
-    (
+    let has_partner = has_some polygons s.value.partner _ back in (
       corner_after polygons s.value.partner,
       has_after polygons s.value.partner has_partner,
       record {

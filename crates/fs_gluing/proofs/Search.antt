@@ -1,5 +1,5 @@
 -- The search through glued sides.
-use Rattle.std.proofs.Common.{◌≡◌, ◌↔◌, ◌⊎◌, inl, inr, ℕ, zero, suc, ◌+◌, ◌-◌, ◌<◌, ◌≤◌, Bool, true, false, not, cond, List, [], ◌∷◌, ◌++◌, Option, Some, None, length, map, take, get_or, set, replicate, count_by, sym, ap, ◌∙◌, refl, subst, arith}
+use Rattle.std.proofs.Common.{◌≡◌, ◌↔◌, ◌⊎◌, inl, inr, ℕ, suc, ◌+◌, ◌-◌, ◌<◌, Bool, true, false, not, cond, List, [], ◌∷◌, ◌++◌, Some, length, take, get_or, set, replicate, count_by, sym, ap, ◌∙◌, refl, subst, arith}
 use Rattle.std.proofs.lemmas.Bool.{cases_lt, cases_eq}
 use Rattle.std.proofs.lemmas.List.{append-nil, get_or_default, get_or_past, get_or-set_same, get_or-set_other, get_or-replicate, length-map, length-replicate, length-set, length-append, take_more, map-append}
 use Rattle.std.proofs.lemmas.List.Elements.{All-from_recursion, All-get_or, Contains-append_left, Contains-push, Contains-push_cases}
@@ -20,7 +20,7 @@ use Rattle.fs_gluing.specs.Polygons.{at_side}
 use Rattle.fs_gluing.specs.Reached.{IsReached}
 use Rattle.fs_gluing.specs.Surface.{AreNeighbours, IsGlued}
 use Rattle.fs_gluing.proofs.Checks.{passes_before_none, passes_before_more, passes_before_same, answers_first_of_rest, answers_first_of_head}
-use Rattle.fs_gluing.proofs.Corners.{StandsIn, stands_in_at}
+use Rattle.fs_gluing.proofs.Corners.{stands_in_at}
 
 bool_cases : (b : Bool) → IsTrue b ⊎ (¬ IsTrue b)
 bool_cases true = inl refl
@@ -63,8 +63,7 @@ marks_seen ks k marks more waiting longer m seen = record {
 set_marked : (marks : List Bool) (k j : ℕ) → k < length marks → IsMarked (set marks k true) j ↔ (IsMarked marks j ⊎ (k ≡ j))
 set_marked marks k j l =
     let here : k ≡ j → IsMarked (set marks k true) j = λ e. subst (IsMarked (set marks k true)) e (get_or-set_same marks k true false l) in
-    let other : (k ≡ j → ⊥) → get_or (set marks k true) j false ≡ get_or marks j false = λ n. get_or-set_other marks k j true false (λ e. n (sym e)) in
-    (
+    let other : (k ≡ j → ⊥) → get_or (set marks k true) j false ≡ get_or marks j false = λ n. get_or-set_other marks k j true false (λ e. n (sym e)) in (
       (λ h. elim (cases_eq k j) [ inl e ↦ inr e | inr n ↦ inl (sym (other n) ∙ h) ]),
       (λ h. elim h [ inl m ↦ elim (cases_eq k j) [ inl e ↦ here e | inr n ↦ other n ∙ m ] | inr e ↦ here e ]),
     )
@@ -192,7 +191,7 @@ partner_polygon side = side.partner.polygon
 neighbour_listed : (polygons : List (List Side)) (k j : ℕ) (polygon : List Side) → slice_get polygons k ≡ Some polygon → AreNeighbours polygons k j → Contains (partner_polygons polygon) j
 neighbour_listed polygons k j polygon there n =
     let at : slice_get polygon n.corner.side ≡ Some n.side =
-        ap (option_and_then (λ (p : List Side). slice_get p n.corner.side)) (sym (ap (slice_get polygons) n.from ∙ there)) ∙ n.there in
+    ap (option_and_then (λ (p : List Side). slice_get p n.corner.side)) (sym (ap (slice_get polygons) n.from ∙ there)) ∙ n.there in
     let listed : slice_get (partner_polygons polygon) n.corner.side ≡ Some n.side.partner.polygon = slice_get-map partner_polygon polygon n.corner.side ∙ ap (option_map partner_polygon) at in
     (n.corner.side, slice_get_within _ _ _ listed, get_or_from_slice_get (partner_polygons polygon) n.corner.side n.side.partner.polygon j listed ∙ n.to)
 
@@ -245,7 +244,7 @@ search_all polygons marks waiting rest n is rest_is none s =
       exact = λ k. (
         s.reached k,
         (λ r. r (λ j. get_or marks j false) s.first
-          (λ i j step held. elim (s.closed i j held step) [ inl c ↦ absurd (not_in_none i (subst (λ w. Contains w i) empty c)) | inr h ↦ h ])),
+            (λ i j step held. elim (s.closed i j held step) [ inl c ↦ absurd (not_in_none i (subst (λ w. Contains w i) empty c)) | inr h ↦ h ])),
       );
     }
 

@@ -56,11 +56,7 @@ fn search(alloc: Global, polygons: &Sequence<Sequence<Side>>) -> Result<Vec<bool
 
 // Marks the polygons that these sides are glued to. Those that weren't marked have to wait for
 // their own visit.
-fn visit(
-    sides: &[Side],
-    reached: &mut Vec<bool>,
-    waiting: &mut Vec<u16>,
-) -> Result<(), AllocError>
+fn visit(sides: &[Side], reached: &mut Vec<bool>, waiting: &mut Vec<u16>) -> Result<(), AllocError>
     requires { AllByRecursion (λ side. side.partner.polygon < length reached.old.items) sides.now }
     ensures { OnOk result (Marks (partner_polygons sides.now) reached.old.items reached.new.items waiting.old.items waiting.new.items) }
 {
