@@ -137,11 +137,13 @@ impl Surface {
             (c.side + 1 < length polygon → vector_add result side.vector ≡ corner_place (side_vectors polygon) (c.side + 1))
             × (c.side + 1 ≡ length polygon → vector_add result side.vector ≡ vector_zero))) }
     {
-        self.places.as_slice()[c.polygon as usize].as_slice()[c.side as usize]
+        let places = self.places.as_slice()[c.polygon as usize].as_slice();
+        places[c.side as usize]
     }
 
     /// The next corner counterclockwise round the vertex of a corner: the start of the side that
     /// the side before the corner is glued to.
+    #[tactic(auto, using(crate::proofs::Corners::has_before))]
     pub fn turn(&self, c: Corner) -> Corner
         requires { HasSide self.now.polygons c }
         ensures turn { TurnsTo self.now.polygons c result }
