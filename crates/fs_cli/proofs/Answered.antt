@@ -7,7 +7,7 @@ use Rattle.fs_io.specs.Whole.{most_bytes}
 use Rattle.fs_quadratic.proofs.Firsts.{All-append, first_not_all, first_unique}
 use Rattle.fs_quadratic.specs.First.{IsFirstWithout}
 use Rattle.fs_gluing.specs.declared.faults.Fault.TheVariants.{BadLine}
-use Rattle.fs_gluing.specs.FirstFault.{Test, Passes, tests, IsFirstFailure, Judges, answer}
+use Rattle.fs_gluing.specs.FirstFault.{Test, PassesOf, tests_of, IsFirstFailure, Judges, answer}
 use Rattle.fs_gluing.specs.declared.faults.BuildStop.{BuildStop}
 use Rattle.fs_gluing.specs.declared.faults.BuildStop.TheVariants as stops
 use Rattle.fs_plane.specs.declared.vector.V2.{V2}
@@ -39,11 +39,11 @@ not_below lines m n a b h = let within = b.within in a.bad (omega arith) (b.leas
 pub bad_unique : (lines : List (List ℕ)) (m n : ℕ) → IsBadLine lines m → IsBadLine lines n → m ≡ n
 bad_unique lines m n a b = let c = not_below lines m n a b in let d = not_below lines n m b a in omega arith
 
-first_along : (a b : Job) (s t : Test) → a ≡ b → IsFirstFailure a.shape s → IsFirstFailure b.shape t → s ≡ t
-first_along a b s t e f g = first_unique (Passes a.shape) (tests a.shape) s t f (subst (λ (j : Job). IsFirstFailure j.shape t) (sym e) g)
+first_along : (a b : Job) (s t : Test) → a ≡ b → IsFirstFailure a.d a.shape s → IsFirstFailure b.d b.shape t → s ≡ t
+first_along a b s t e f g = first_unique (PassesOf a.d a.shape) (tests_of a.shape) s t f (subst (λ (j : Job). IsFirstFailure j.d j.shape t) (sym e) g)
 
-failed_and_passed : (a b : Job) (t : Test) → a ≡ b → IsFirstFailure a.shape t → AllByRecursion (Passes b.shape) (tests b.shape) → ⊥
-failed_and_passed a b t e f all = first_not_all (Passes a.shape) (tests a.shape) t f (subst (λ (j : Job). AllByRecursion (Passes j.shape) (tests j.shape)) (sym e) all)
+failed_and_passed : (a b : Job) (t : Test) → a ≡ b → IsFirstFailure a.d a.shape t → AllByRecursion (PassesOf b.d b.shape) (tests_of b.shape) → ⊥
+failed_and_passed a b t e f all = first_not_all (PassesOf a.d a.shape) (tests_of a.shape) t f (subst (λ (j : Job). AllByRecursion (PassesOf j.d j.shape) (tests_of j.shape)) (sym e) all)
 
 pub answered_unique : (bytes o o' : List ℕ) (r r' : Status) → IsAnswered bytes o r → IsAnswered bytes o' r' → (o ≡ o') × (r ≡ r')
 answered_unique bytes o o' r r' (Too_long a s e) (Too_long b t f) = (e ∙ sym f, s ∙ sym t)
@@ -160,7 +160,7 @@ module _ {X : Type 0} (P : X → Type 0) (xs : List X) (no_first : (x : X) → �
 pub some_answer : (bytes : List ℕ) → ((output : List ℕ) (result : Status) → ¬ IsAnswered bytes output result) → ⊥
 some_answer bytes none =
     by_length (λ few. not_neither (lines_of bytes)
-    (λ job thin. first_or_all (Passes job.shape) (tests job.shape)
+    (λ job thin. first_or_all (PassesOf job.d job.shape) (tests_of job.shape)
     (λ test first. none _ _ (Not_built job test few thin first refl refl))
     (λ all. none _ _ (Built job few thin all refl refl)))
     (λ number bad. none _ _ (Bad_line number few bad refl refl)))

@@ -5,7 +5,6 @@ pub mod Words
 pub mod Lines
 pub mod Unique
 pub mod Points
-pub mod Glues
 pub mod Steps
 pub mod Ready
 pub mod Paths

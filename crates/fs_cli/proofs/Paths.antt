@@ -1,5 +1,5 @@
 -- Paths of lines: they join, split, and lead to one progress only; and each goes on to a whole job.
-use Rattle.std.proofs.Common.{◌≡◌, ◌≢◌, ℕ, ◌+◌, ◌*◌, ◌%◌, ◌<◌, ◌≤◌, List, [], ◌∷◌, ◌++◌, length, take, drop, pos, refl, sym, ap, ◌∙◌, subst, arith, inl, inr, add-zero, append_assoc, append-nil, take-append-drop, false, length-drop}
+use Rattle.std.proofs.Common.{◌≡◌, ◌≢◌, ℕ, ◌+◌, ◌*◌, ◌%◌, ◌<◌, ◌≤◌, List, [], ◌∷◌, ◌++◌, length, take, drop, refl, sym, ap, ◌∙◌, subst, arith, inl, inr, add-zero, append_assoc, append-nil, take-append-drop, length-drop}
 use Rattle.std.proofs.Math.Seq.{take-add}
 use Rattle.std.proofs.Math.Nat.{mod-eq_of_lt}
 use Rattle.std.proofs.lemmas.List.{length-take-le, take-take, drop-drop}
@@ -7,7 +7,7 @@ use Rattle.std.specs.Prelude.{codes}
 use Rattle.fs_quadratic.specs.Radicand.{IsRadicand}
 use Rattle.fs_gluing.specs.declared.shapes.Point.{Point}
 use Rattle.fs_gluing.specs.declared.shapes.Shape.{Shape}
-use Rattle.fs_cli.specs.Spelling.{SpellsNumeral, SpellsWhole, SpellsPoint}
+use Rattle.fs_cli.specs.Spelling.{SpellsNumeral}
 use Rattle.fs_cli.specs.ThinJob.{SpellsField, SpellsPolygon, SpellsGlue, Job, Progress, Nothing, Headed, Fielded, Outlined, Checked, Ended, AddsPolygon, AddsGlue, with_glue, Step, Path, IsThin, Begins, IsBadLine}
 use Rattle.fs_cli.proofs.Unique.{unique_numeral}
 use Rattle.fs_cli.proofs.Points.{same_behind, glue_not_polygon, unique_polygon, unique_glue, first_byte}
@@ -73,21 +73,6 @@ path_unique n a b c [] p q = sym p ∙ q
 path_unique n a b c (x ∷ xs) p q =
     path_unique (n + 1) q.0 b c xs (subst (λ (m : Progress). Path (n + 1) m xs b) (step_unique n a x p.0 q.0 p.1 q.1) p.2) q.2
 
--- the digit 0
-zero_numeral : (most : ℕ) → 1 ≤ most → SpellsNumeral most (48 ∷ []) 0
-zero_numeral most h = record { digits = (omega arith, (omega arith, tt)); few = h; value = refl }
-
-zero_whole : SpellsWhole (48 ∷ []) (record { p = pos 0; q = pos 0 })
-zero_whole = record { minus = false; digits = 48 ∷ []; n = 0; tail = []; whole = refl; numeral = zero_numeral 18 (omega arith); rest = inl (refl, refl) }
-
-origin : Point
-origin = record { x = record { p = pos 0; q = pos 0 }; y = record { p = pos 0; q = pos 0 } }
-
--- the point that `0,0` spells
-origin_spelled : SpellsPoint (48 ∷ 44 ∷ 48 ∷ []) origin
-unfolding origin
-origin_spelled = record { x_text = 48 ∷ []; y_text = 48 ∷ []; whole = refl; x = zero_whole; y = zero_whole }
-
 two_squarefree : (k : ℕ) → 2 ≤ k → 2 % (k * k) ≢ 0
 two_squarefree k h e = absurd (let large : 4 ≤ k * k = grind arith in let same : 2 % (k * k) ≡ 2 = mod-eq_of_lt (omega arith) in omega arith)
 
@@ -97,15 +82,11 @@ two_is_radicand = record { least = omega arith; greatest = omega arith; squarefr
 field_two : SpellsField (codes "field 2") 2
 field_two = record { digits = 50 ∷ []; whole = refl; numeral = record { digits = (omega arith, (omega arith, tt)); few = omega arith; value = refl }; radicand = two_is_radicand }
 
-triangle : (d : ℕ) → AddsPolygon (codes "polygon 0,0 0,0 0,0") d (record { polygons = []; glues = [] }) (Outlined (record { d = d; shape = record { polygons = (origin ∷ origin ∷ origin ∷ []) ∷ []; glues = [] } }))
-triangle d = record {
-  polygon = origin ∷ origin ∷ origin ∷ [];
-  spelled = record {
-    rest = codes " 0,0 0,0 0,0";
-    whole = refl;
-    spelled = (48 ∷ 44 ∷ 48 ∷ [], codes " 0,0 0,0", refl, origin_spelled, (48 ∷ 44 ∷ 48 ∷ [], codes " 0,0", refl, origin_spelled, (48 ∷ 44 ∷ 48 ∷ [], [], refl, origin_spelled, refl)));
-  };
-  three = omega arith;
+-- a polygon without sides
+empty_polygon : (d : ℕ) → AddsPolygon (codes "polygon") d (record { polygons = []; glues = [] }) (Outlined (record { d = d; shape = record { polygons = [] ∷ []; glues = [] } }))
+empty_polygon d = record {
+  polygon = [];
+  spelled = record { rest = []; whole = refl; spelled = refl };
   no_glue = refl;
   polygons = omega arith;
   sides = omega arith;
@@ -122,20 +103,20 @@ from_outline n job = (Checked job, inr (inr (refl, refl)), (Ended job, (refl, re
 completes : (n : ℕ) (a : Progress) → Completes n a
 unfolding Completes
 completes n Nothing =
-    let job : Job = record { d = 2; shape = record { polygons = (origin ∷ origin ∷ origin ∷ []) ∷ []; glues = [] } } in (
-      codes "flatsurf 1" ∷ codes "field 2" ∷ codes "polygon 0,0 0,0 0,0" ∷ codes "check" ∷ codes "end" ∷ [],
+    let job : Job = record { d = 2; shape = record { polygons = [] ∷ []; glues = [] } } in (
+      codes "flatsurf 1" ∷ codes "field 2" ∷ codes "polygon" ∷ codes "check" ∷ codes "end" ∷ [],
       job,
-      (Headed, (refl, refl), (Fielded 2, (2, field_two, refl), (Outlined job, triangle 2, from_outline (((n + 1) + 1) + 1) job))),
+      (Headed, (refl, refl), (Fielded 2, (2, field_two, refl), (Outlined job, empty_polygon 2, from_outline (((n + 1) + 1) + 1) job))),
     )
 completes n Headed =
-    let job : Job = record { d = 2; shape = record { polygons = (origin ∷ origin ∷ origin ∷ []) ∷ []; glues = [] } } in (
-      codes "field 2" ∷ codes "polygon 0,0 0,0 0,0" ∷ codes "check" ∷ codes "end" ∷ [],
+    let job : Job = record { d = 2; shape = record { polygons = [] ∷ []; glues = [] } } in (
+      codes "field 2" ∷ codes "polygon" ∷ codes "check" ∷ codes "end" ∷ [],
       job,
-      (Fielded 2, (2, field_two, refl), (Outlined job, triangle 2, from_outline ((n + 1) + 1) job)),
+      (Fielded 2, (2, field_two, refl), (Outlined job, empty_polygon 2, from_outline ((n + 1) + 1) job)),
     )
 completes n (Fielded d) =
-    let job : Job = record { d = d; shape = record { polygons = (origin ∷ origin ∷ origin ∷ []) ∷ []; glues = [] } } in
-    (codes "polygon 0,0 0,0 0,0" ∷ codes "check" ∷ codes "end" ∷ [], job, (Outlined job, triangle d, from_outline (n + 1) job))
+    let job : Job = record { d = d; shape = record { polygons = [] ∷ []; glues = [] } } in
+    (codes "polygon" ∷ codes "check" ∷ codes "end" ∷ [], job, (Outlined job, empty_polygon d, from_outline (n + 1) job))
 completes n (Outlined job) = (codes "check" ∷ codes "end" ∷ [], job, from_outline n job)
 completes n (Checked job) = (codes "end" ∷ [], job, (Ended job, (refl, refl), refl))
 completes n (Ended job) = ([], job, refl)

@@ -5,7 +5,7 @@ use Rattle.fs_io.specs.Whole.{most_bytes}
 use Rattle.fs_gluing.specs.declared.faults.Fault.TheVariants.{BadLine, TooLong}
 use Rattle.fs_gluing.specs.declared.faults.BuildStop.{BuildStop}
 use Rattle.fs_gluing.specs.declared.faults.BuildStop.TheVariants as stops
-use Rattle.fs_gluing.specs.FirstFault.{Test, Passes, tests, IsFirstFailure, answer}
+use Rattle.fs_gluing.specs.FirstFault.{Test, PassesOf, tests_of, IsFirstFailure, answer}
 use Rattle.fs_cli.specs.declared.outcome.Status.{Status}
 use Rattle.fs_cli.specs.declared.outcome.Status.TheVariants as status
 use Rattle.fs_cli.specs.Text.{fault_text, build_text, check_text}
@@ -29,9 +29,9 @@ pub data IsAnswered (bytes output : List ℕ) (result : Status) : Type 0 where
   -- the lines are no thin job
   Bad_line : (number : ℕ) → length bytes ≤ most_bytes → IsBadLine (lines_of bytes) number → result ≡ status.Refused → output ≡ fault_text (BadLine number) → IsAnswered bytes output result
   -- the shape fails a test of building
-  Not_built : (job : Job) → (test : Test) → length bytes ≤ most_bytes → IsThin (lines_of bytes) job → IsFirstFailure job.shape test → result ≡ stop_status (answer test) → output ≡ stop_text (answer test) → IsAnswered bytes output result
+  Not_built : (job : Job) → (test : Test) → length bytes ≤ most_bytes → IsThin (lines_of bytes) job → IsFirstFailure job.d job.shape test → result ≡ stop_status (answer test) → output ≡ stop_text (answer test) → IsAnswered bytes output result
   -- the surface is built, and counted
-  Built : (job : Job) → length bytes ≤ most_bytes → IsThin (lines_of bytes) job → AllByRecursion (Passes job.shape) (tests job.shape) → result ≡ status.Done → output ≡ check_text (length job.shape.polygons) (sum_by length job.shape.polygons) → IsAnswered bytes output result
+  Built : (job : Job) → length bytes ≤ most_bytes → IsThin (lines_of bytes) job → AllByRecursion (PassesOf job.d job.shape) (tests_of job.shape) → result ≡ status.Done → output ≡ check_text (length job.shape.polygons) (sum_by length job.shape.polygons) → IsAnswered bytes output result
 
 -- the number of a status
 abbrev pub exit_code : Status → ℕ

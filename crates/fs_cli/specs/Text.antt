@@ -3,9 +3,9 @@ use Rattle.std.specs.Prelude.{ℕ, List, [], ◌∷◌, ◌++◌, codes}
 use Rattle.std.specs.Fmt.{decimal}
 use Rattle.fs_plane.specs.declared.corners.Corner.{Corner}
 use Rattle.fs_plane.specs.declared.sites.Site.{Site}
-use Rattle.fs_plane.specs.declared.sites.Site.TheVariants.{Close}
+use Rattle.fs_plane.specs.declared.sites.Site.TheVariants as sites
 use Rattle.fs_gluing.specs.declared.faults.Fault.{Fault}
-use Rattle.fs_gluing.specs.declared.faults.Fault.TheVariants.{BadLine, NotClosed, NotOpposite, Unglued, TooLong}
+use Rattle.fs_gluing.specs.declared.faults.Fault.TheVariants.{BadLine, FewSides, NotClosed, NotConvex, TurnsTwice, NoSuchSide, GluedTwice, NotOpposite, Unglued, Apart, TooLong}
 
 -- a line feed
 abbrev pub end : List ℕ
@@ -18,14 +18,21 @@ corner_text c = decimal c.polygon ++ codes "." ++ decimal c.side
 -- the number and the name of a fault, and where it is
 abbrev pub fault_text : Fault → List ℕ
 fault_text (BadLine line) = codes "refused 3 BadLine line " ++ decimal line ++ end
+fault_text (FewSides polygon) = codes "refused 10 FewSides " ++ decimal polygon ++ end
 fault_text (NotClosed polygon) = codes "refused 11 NotClosed " ++ decimal polygon ++ end
+fault_text (NotConvex corner) = codes "refused 12 NotConvex " ++ corner_text corner ++ end
+fault_text (TurnsTwice polygon) = codes "refused 13 TurnsTwice " ++ decimal polygon ++ end
+fault_text (NoSuchSide line) = codes "refused 14 NoSuchSide line " ++ decimal line ++ end
+fault_text (GluedTwice line) = codes "refused 15 GluedTwice line " ++ decimal line ++ end
 fault_text (NotOpposite line) = codes "refused 16 NotOpposite line " ++ decimal line ++ end
 fault_text (Unglued side) = codes "refused 17 Unglued " ++ corner_text side ++ end
+fault_text (Apart polygon) = codes "refused 18 Apart " ++ decimal polygon ++ end
 fault_text TooLong = codes "refused 20 TooLong" ++ end
 
 -- the name of a site and its numbers
 abbrev pub site_text : Site → List ℕ
-site_text (Close polygon side place) = codes "close " ++ decimal polygon ++ codes " " ++ decimal side ++ codes " " ++ decimal place
+site_text (sites.Close polygon side place) = codes "close " ++ decimal polygon ++ codes " " ++ decimal side ++ codes " " ++ decimal place
+site_text (sites.Corner polygon side place) = codes "corner " ++ decimal polygon ++ codes " " ++ decimal side ++ codes " " ++ decimal place
 
 -- where building left the width
 abbrev pub build_text : Site → List ℕ

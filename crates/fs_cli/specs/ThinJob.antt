@@ -1,12 +1,9 @@
 -- Thin jobs: which lines are one, and which line of all others is at fault.
-use Rattle.std.specs.Prelude.{◌≡◌, ◌≢◌, ℕ, ◌+◌, ◌<◌, ◌≤◌, ◌⊎◌, List, [], ◌∷◌, ◌++◌, if◌then◌else◌, ◌==◌, length, take, sum_by, codes}
-use Rattle.std.specs.List.{AllByRecursion}
+use Rattle.std.specs.Prelude.{◌≡◌, ℕ, ◌+◌, ◌<◌, ◌≤◌, ◌⊎◌, List, [], ◌∷◌, ◌++◌, if◌then◌else◌, ◌==◌, length, take, sum_by, codes}
 use Rattle.fs_quadratic.specs.Radicand.{IsRadicand}
 use Rattle.fs_plane.specs.declared.corners.Corner.{Corner}
 use Rattle.fs_gluing.specs.declared.shapes.Point.{Point}
 use Rattle.fs_gluing.specs.declared.shapes.Shape.{Shape}
-use Rattle.fs_gluing.specs.Polygons.{HasSide}
-use Rattle.fs_gluing.specs.Shape.{glued_sides}
 use Rattle.fs_cli.specs.Spelling.{SpellsNumeral, SpellsPoints, SpellsSide}
 
 -- a byte before the first of these lines
@@ -54,23 +51,14 @@ pub data Progress : Type 0 where
   Checked : Job → Progress
   Ended : Job → Progress
 
--- a polygon line with three sides or more, within the limits, before any glue line
+-- a polygon line, within the limits, before any glue line
 pub record AddsPolygon (line : List ℕ) (d : ℕ) (shape : Shape) (after : Progress) : Type 0 where
   pub polygon : List Point
   pub spelled : SpellsPolygon line polygon
-  pub three : 3 ≤ length polygon
   pub no_glue : shape.glues ≡ []
   pub polygons : length shape.polygons < 256
   pub sides : sum_by length shape.polygons + length polygon ≤ 1024
   pub becomes : after ≡ Outlined (record { d = d; shape = record { polygons = shape.polygons ++ polygon ∷ []; glues = [] } })
-
--- the sides are there, differ, and stand on no glue line yet
-pub record MayGlue (shape : Shape) (one two : Corner) : Type 0 where
-  pub one_there : HasSide shape.polygons one
-  pub two_there : HasSide shape.polygons two
-  pub differ : one ≢ two
-  pub one_free : AllByRecursion (λ side. side ≢ one) (glued_sides shape.glues)
-  pub two_free : AllByRecursion (λ side. side ≢ two) (glued_sides shape.glues)
 
 -- the job with one glue line more
 abbrev pub with_glue : ℕ → Corner → Corner → Job → Job
@@ -79,12 +67,11 @@ with_glue number one two job = record {
   shape = record { polygons = job.shape.polygons; glues = job.shape.glues ++ (record { line = number; one = one; two = two }) ∷ [] };
 }
 
--- a glue line whose sides may be glued
+-- a glue line, whatever sides it names
 pub record AddsGlue (number : ℕ) (line : List ℕ) (job : Job) (after : Progress) : Type 0 where
   pub one : Corner
   pub two : Corner
   pub spelled : SpellsGlue line one two
-  pub may : MayGlue job.shape one two
   pub becomes : after ≡ Outlined (with_glue number one two job)
 
 -- the line with this number may come next, and leads from one progress to the other

@@ -1,15 +1,13 @@
-ghost use Rattle.std.specs.Prelude.{◌≡◌, ◌≢◌, [], ◌↔◌, ◌⊎◌, ◌≤◌, ℕ, IsTrue, IfOk, IfErr, MatchOption, sum_by, length};
-ghost use Rattle.std.specs.List.{AllByRecursion};
-ghost use Rattle.fs_gluing.specs.Polygons.{HasSide};
-ghost use Rattle.fs_gluing.specs.Shape.{glued_sides, IsReady};
+ghost use Rattle.std.specs.Prelude.{◌≡◌, ◌⊎◌, ◌≤◌, ℕ, IfOk, IfErr, MatchOption, length};
+ghost use Rattle.fs_gluing.specs.Shape.{IsWithinLimits};
 ghost use Rattle.fs_io.specs.Whole.{most_bytes};
-ghost use Rattle.fs_cli.specs.ThinJob.{Progress, Outlined, AddsPolygon, MayGlue, with_glue, Step, IsThin, IsBadLine, lines_of};
+ghost use Rattle.fs_cli.specs.ThinJob.{Progress, Outlined, AddsPolygon, with_glue, Step, IsThin, IsBadLine, lines_of};
 ghost use Rattle.fs_cli.specs.Stage.{job_of, progress_of};
 
 use crate::pieces::first_line;
 use crate::thin::{field_line, glue_line, polygon_line};
 use crate::thin_job::ThinJob;
-use fs_gluing::{Glue, Shape};
+use fs_gluing::Glue;
 use fs_plane::Corner;
 use fs_quadratic::Field;
 use std::alloc::{AllocError, Global};
@@ -39,35 +37,6 @@ pub enum ThinStop {
     NoMemory,
 }
 
-// Whether there is that side.
-fn has_side(shape: &Shape, c: Corner) -> bool
-    ensures { IsTrue result ↔ HasSide shape.now.polygons c }
-{
-    match shape.polygons.as_slice().get(c.polygon as usize) {
-        Some(polygon) => (c.side as usize) < polygon.len(),
-        None => false,
-    }
-}
-
-// Whether the glue line names the side.
-fn names_side(glue: &Glue, c: Corner) -> bool
-    ensures { IsTrue result ↔ ((glue.now.one ≡ c) ⊎ (glue.now.two ≡ c)) }
-{
-    glue.one == c || glue.two == c
-}
-
-// Whether the side is on none of these glue lines.
-fn is_free(glues: &[Glue], c: Corner) -> bool
-    ensures { IsTrue result ↔ AllByRecursion (λ side. side ≢ c) (glued_sides glues.now) }
-{
-    for glue in glues {
-        if names_side(glue, c) {
-            return false;
-        }
-    }
-    true
-}
-
 // The job with one polygon more, where the line adds one.
 fn add_polygon(alloc: Global, mut job: ThinJob, line: &[u8]) -> Result<Option<ThinJob>, AllocError>
     ensures { IfOk result (λ next. MatchOption next
@@ -81,7 +50,7 @@ fn add_polygon(alloc: Global, mut job: ThinJob, line: &[u8]) -> Result<Option<Th
         return Ok(None);
     };
     let added = polygon.len();
-    if added < 3 || added > MOST_SIDES - job.sides {
+    if added > MOST_SIDES - job.sides {
         return Ok(None);
     }
     job.shape.polygons.push(polygon)?;
@@ -89,30 +58,16 @@ fn add_polygon(alloc: Global, mut job: ThinJob, line: &[u8]) -> Result<Option<Th
     Ok(Some(job))
 }
 
-// The job with one glue line more, where the line with this number adds one.
-fn add_glue(
-    mut job: ThinJob,
-    number: u32,
-    one: Corner,
-    two: Corner,
-) -> Result<Option<ThinJob>, AllocError>
-    ensures { IfOk result (λ next. MatchOption next
-        (¬ MayGlue job.shape one two)
-        (λ after. MayGlue job.shape one two × (job_of after ≡ with_glue number one two (job_of job)))) }
+// The job with the glue line of this number, which names these sides, at its end.
+fn add_glue(mut job: ThinJob, number: u32, one: Corner, two: Corner) -> Result<ThinJob, AllocError>
+    ensures { IfOk result (λ after. job_of after ≡ with_glue number one two (job_of job)) }
 {
-    if one == two || !has_side(&job.shape, one) || !has_side(&job.shape, two) {
-        return Ok(None);
-    }
-    let glues = job.shape.glues.as_slice();
-    if !is_free(glues, one) || !is_free(glues, two) {
-        return Ok(None);
-    }
     job.shape.glues.push(Glue {
         line: number,
         one,
         two,
     })?;
-    Ok(Some(job))
+    Ok(job)
 }
 
 // What may come after the first polygon line: a polygon line, a glue line, or `check`.
@@ -130,10 +85,8 @@ fn in_outline(
         return Ok(Some(Stage::Checked(job)));
     }
     if let Some((one, two)) = glue_line(line) {
-        return match add_glue(job, number, one, two)? {
-            Some(job) => Ok(Some(Stage::Outlined(job))),
-            None => Ok(None),
-        };
+        let glued = add_glue(job, number, one, two)?;
+        return Ok(Some(Stage::Outlined(glued)));
     }
     match add_polygon(alloc, job, line)? {
         Some(job) => Ok(Some(Stage::Outlined(job))),
@@ -170,7 +123,7 @@ fn step(alloc: Global, stage: Stage, number: u32, line: &[u8]) -> Result<Option<
 pub fn read_thin(alloc: Global, bytes: &[u8]) -> Result<ThinJob, ThinStop>
     requires { length bytes.now ≤ most_bytes }
     ensures job { IfOk result (λ job. IsThin (lines_of bytes.now) (job_of job)) }
-    ensures ready { IfOk result (λ job. IsReady job.shape) }
+    ensures ready { IfOk result (λ job. IsWithinLimits job.shape) }
     ensures bad { IfErr result (λ e. (e ≡ ThinStop.NoMemory)
         ⊎ ((number : ℕ) × (e ≡ ThinStop.BadLine number) × IsBadLine (lines_of bytes.now) number)) }
 {

@@ -11,12 +11,21 @@ pub fn fault_line(alloc: Global, fault: Fault) -> Result<String, AllocError>
 {
     match fault {
         Fault::BadLine { line } => format!(in alloc; "refused 3 BadLine line {line}\n"),
+        Fault::FewSides { polygon } => format!(in alloc; "refused 10 FewSides {polygon}\n"),
         Fault::NotClosed { polygon } => format!(in alloc; "refused 11 NotClosed {polygon}\n"),
+        Fault::NotConvex(corner) => {
+            let (polygon, side) = (corner.polygon, corner.side);
+            format!(in alloc; "refused 12 NotConvex {polygon}.{side}\n")
+        }
+        Fault::TurnsTwice { polygon } => format!(in alloc; "refused 13 TurnsTwice {polygon}\n"),
+        Fault::NoSuchSide { line } => format!(in alloc; "refused 14 NoSuchSide line {line}\n"),
+        Fault::GluedTwice { line } => format!(in alloc; "refused 15 GluedTwice line {line}\n"),
         Fault::NotOpposite { line } => format!(in alloc; "refused 16 NotOpposite line {line}\n"),
         Fault::Unglued(side) => {
             let (polygon, side) = (side.polygon, side.side);
             format!(in alloc; "refused 17 Unglued {polygon}.{side}\n")
         }
+        Fault::Apart { polygon } => format!(in alloc; "refused 18 Apart {polygon}\n"),
         Fault::TooLong => format!(in alloc; "refused 20 TooLong\n"),
     }
 }
@@ -31,6 +40,11 @@ pub fn build_line(alloc: Global, site: Site) -> Result<String, AllocError>
             side,
             place,
         } => format!(in alloc; "build overflow close {polygon} {side} {place}\n"),
+        Site::Corner {
+            polygon,
+            side,
+            place,
+        } => format!(in alloc; "build overflow corner {polygon} {side} {place}\n"),
     }
 }
 
