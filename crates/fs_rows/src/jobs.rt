@@ -1,92 +1,7 @@
+use crate::running::{run, square_with};
 use fs_cli::{Status, flat};
 use fs_io::{MemSink, MemSource};
-use std::alloc::{AllocError, Global};
 use std::test::Fail;
-
-const SQUARE: [&str; 7] = [
-    "flatsurf 1",
-    "field 2",
-    "polygon 1,0 0,1 -1,0 0,-1",
-    "glue 0.0 0.2",
-    "glue 0.1 0.3",
-    "check",
-    "end",
-];
-
-// The job of the unit square, with this text in the place of one of its lines, from 1.
-fn square_with(alloc: Global, number: usize, text: &str) -> Result<Vec<u8>, AllocError> {
-    let mut job = Vec::new(alloc);
-    for (i, line) in SQUARE.iter().enumerate() {
-        if i + 1 == number {
-            job.extend_from_slice(text.as_bytes())?;
-        } else {
-            job.extend_from_slice(line.as_bytes())?;
-            job.push(b'\n')?;
-        }
-    }
-    Ok(job)
-}
-
-// What is written for a job, and the status.
-fn run(alloc: Global, job: Vec<u8>) -> Result<(Status, MemSink), Fail> {
-    let mut input = MemSource::new(job, 64, Vec::new(alloc));
-    let mut out = MemSink::new(alloc, 256, Vec::new(alloc))
-        .ok()
-        .ok_or("no room")?;
-    let status = flat(alloc, &[], &mut input, &mut out);
-    Ok((status, out))
-}
-
-#[test]
-fn answers(rt: HostRuntime) -> Result<(), Fail> {
-    let wide = "polygon 999999999999999999,0 0,1 -999999999999999999,0 0,-1\n";
-    for (number, text, answer, status) in [
-        (0, "", "check polygons 1 sides 4\n", Status::Done),
-        (
-            1,
-            "flatsurf 1\r\n",
-            "refused 3 BadLine line 1\n",
-            Status::Refused,
-        ),
-        (3, wide, "check polygons 1 sides 4\n", Status::Done),
-        (
-            3,
-            "polygon 1,0 0,1 -1,0 0,-2\n",
-            "refused 11 NotClosed 0\n",
-            Status::Refused,
-        ),
-        (
-            3,
-            "polygon 1,0 0,1r -1,0 0,-1\n",
-            "refused 11 NotClosed 0\n",
-            Status::Refused,
-        ),
-        (
-            4,
-            "glue 0.0 0.0\n",
-            "refused 3 BadLine line 4\n",
-            Status::Refused,
-        ),
-        (4, "", "refused 17 Unglued 0.0\n", Status::Refused),
-        (5, "", "refused 17 Unglued 0.1\n", Status::Refused),
-        (
-            4,
-            "glue 0.0 0.2\nglue 0.1 0.3\n",
-            "refused 3 BadLine line 6\n",
-            Status::Refused,
-        ),
-    ] {
-        let (got, out) = run(rt.alloc(), square_with(rt.alloc(), number, text)?)?;
-        assert_eq!(rt; out.held(), answer.as_bytes(), "line {number}: {text}");
-        assert_eq!(rt; got, status, "line {number}: {text}");
-    }
-    let crossed =
-        b"flatsurf 1\nfield 2\npolygon 1,0 0,1 -1,0 0,-1\nglue 0.0 0.1\nglue 0.2 0.3\ncheck\nend\n";
-    let (got, out) = run(rt.alloc(), crossed.to_vec(rt.alloc())?)?;
-    assert_eq!(rt; out.held(), b"refused 16 NotOpposite line 4\n".as_slice());
-    assert_eq!(rt; got, Status::Refused);
-    Ok(())
-}
 
 // Each row puts a text in the place of a line, and names the line that is at fault then.
 #[test]
@@ -107,6 +22,8 @@ fn bad_lines(rt: HostRuntime) -> Result<(), Fail> {
         (2, "field 12\n", "refused 3 BadLine line 2\n"),
         (2, "field 1000\n", "refused 3 BadLine line 2\n"),
         (3, "", "refused 3 BadLine line 3\n"),
+        (3, "polygon \n", "refused 3 BadLine line 3\n"),
+        (3, "polygons\n", "refused 3 BadLine line 3\n"),
         (
             3,
             "0,-1 1,0 0,1 -1,0 polygon\n",
@@ -137,25 +54,22 @@ fn bad_lines(rt: HostRuntime) -> Result<(), Fail> {
             "polygon 1,0 0,0000000000000000001 -1,0 0,-1\n",
             "refused 3 BadLine line 3\n",
         ),
-        (3, "polygon 1,0 -1,0\n", "refused 3 BadLine line 3\n"),
         (
             3,
             "polygon 1,0,0 0,1 -1,0 0,-1\n",
             "refused 3 BadLine line 3\n",
         ),
+        (4, "glue\n", "refused 3 BadLine line 4\n"),
+        (4, "glue 0.0\n", "refused 3 BadLine line 4\n"),
+        (4, "glue 0.0 0.2 0.1\n", "refused 3 BadLine line 4\n"),
+        (4, "glue 0.0 0\n", "refused 3 BadLine line 4\n"),
+        (4, "glue 0.0 -0.2\n", "refused 3 BadLine line 4\n"),
         (4, "0.0 glue 0.2\n", "refused 3 BadLine line 4\n"),
         (4, "glue  0.0 0.2\n", "refused 3 BadLine line 4\n"),
         (4, "glue 0.0\t0.2\n", "refused 3 BadLine line 4\n"),
         (4, "glue 0.0 0.2\r\n", "refused 3 BadLine line 4\n"),
         (4, "glue 0.00000 0.2\n", "refused 3 BadLine line 4\n"),
-        (4, "glue 0.0 0.4\n", "refused 3 BadLine line 4\n"),
-        (4, "glue 1.0 0.2\n", "refused 3 BadLine line 4\n"),
-        (
-            5,
-            "glue 0.1 0.3\nglue 0.1 0.3\n",
-            "refused 3 BadLine line 6\n",
-        ),
-        (5, "glue 0.1 0.2\n", "refused 3 BadLine line 5\n"),
+        (5, "glue 0.1 0.3\npolygon\n", "refused 3 BadLine line 6\n"),
         (6, "", "refused 3 BadLine line 6\n"),
         (6, "check\ncheck\n", "refused 3 BadLine line 7\n"),
         (6, "check check\n", "refused 3 BadLine line 6\n"),

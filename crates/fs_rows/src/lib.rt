@@ -4,4 +4,8 @@
 #[cfg(test)]
 mod jobs;
 #[cfg(test)]
+mod running;
+#[cfg(test)]
 mod streams;
+#[cfg(test)]
+mod surfaces;
