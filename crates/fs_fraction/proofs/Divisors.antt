@@ -87,7 +87,3 @@ gcd_at_most_first a b up = divisor_at_most (gcd a b) a ((gcd-is a b).0) up
 -- the least common multiple is above 0
 pub multiple_positive : (a b : ℕ) → 0 < a → 0 < b → 0 < a * (b / gcd a b)
 multiple_positive a b left right = mul-pos left (quotient_positive (gcd a b) b ((gcd-is a b).1) right)
-
--- so is what is left of two numbers, each divided by a common divisor of it
-pub rests_positive : (a b m n : ℕ) → 0 < m → 0 < n → 0 < (m / gcd b m) * (n / gcd a n)
-rests_positive a b m n left right = mul-pos (quotient_positive (gcd b m) m ((gcd-is b m).1) left) (quotient_positive (gcd a n) n ((gcd-is a n).1) right)

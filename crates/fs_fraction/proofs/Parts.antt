@@ -1,5 +1,5 @@
 -- A text spells at most one number, as it is written.
-use Rattle.std.proofs.Common.{◌≡◌, ◌≢◌, ℕ, ◌<◌, Bool, true, false, List, [], ◌∷◌, ◌++◌, Option, Some, None, length, refl, sym, ◌∙◌, ap, subst, arith, append_assoc}
+use Rattle.std.proofs.Common.{◌≡◌, ◌≢◌, ℕ, Bool, true, false, List, [], ◌∷◌, ◌++◌, Option, Some, None, refl, sym, ◌∙◌, ap, subst, arith, append_assoc}
 use Rattle.std.proofs.lemmas.List.{append-nil}
 use Rattle.std.specs.List.{AllByRecursion}
 use Rattle.std.specs.Str.Parse.{IsNumeral}
@@ -9,10 +9,6 @@ use Rattle.fs_fraction.proofs.Numerals.{same_digits, heads_equal, tails_equal}
 
 quotient_eq : {a b : Quotient} → a.over ≡ b.over → a.under ≡ b.under → a ≡ b
 quotient_eq e f = λ i. record { over = e i; under = f i }
-
-nonempty : (xs : List ℕ) → 0 < length xs → (rest : List ℕ) → xs ++ rest ≡ [] → ⊥
-nonempty [] h rest e = absurd (omega arith)
-nonempty (x ∷ xs) h rest e = cc
 
 not_minus : IsDigit 45 → ⊥
 not_minus h = absurd (omega (arith, h))
@@ -74,22 +70,6 @@ no_under text over rest s stops a tail t =
     (sym s.whole ∙ (t.whole ∙ append_assoc a.over (under_text a.under) tail)) in
     no_run a.under rest tail t.digits.under t.ends stops split.1
 
--- the text is a quotient with a stroke
-pub with_under : (text over rest under tail : List ℕ) → BeginsNumeral text over (47 ∷ rest) → BeginsNumeral rest under tail → Begins text (record { over = over; under = Some under }) tail
-with_under text over rest under tail s t = record {
-  whole = s.whole ∙ (ap (λ (r : List ℕ). over ++ (47 ∷ r)) t.whole ∙ sym (append_assoc over (47 ∷ under) tail));
-  digits = record { over = s.numeral; under = (t.numeral, tt) };
-  ends = t.ends;
-}
-
--- the text is a quotient without one
-pub without_under : (text over rest : List ℕ) → BeginsNumeral text over rest → Stops (λ b. b ≡ 47) rest → Begins text (record { over = over; under = None }) rest
-without_under text over rest s stops = record {
-  whole = s.whole ∙ ap (λ (front : List ℕ). front ++ rest) (sym (append-nil over));
-  digits = record { over = s.numeral; under = tt };
-  ends = (s.ends, stops);
-}
-
 -- ---- second parts
 
 r_stops : (under : Option (List ℕ)) → Ends under (114 ∷ [])
@@ -128,22 +108,9 @@ same_second text minus minus' a a' s t =
       (same_quotient (quotient_text a ++ 114 ∷ []) a a' (114 ∷ []) (114 ∷ []) (second_begins a s.digits) (record { whole = rest; digits = t.digits; ends = r_stops a'.under })).0,
     )
 
-pub no_second_empty : (minus : Bool) (a : Quotient) → ¬ SpellsSecond [] minus a
-no_second_empty minus a s = let e = second_head [] minus a s in cc
-
--- where neither sign stands first, it spells none
-pub no_second_sign : (byte : ℕ) (rest : List ℕ) → byte ≢ 43 → byte ≢ 45 → (minus : Bool) (a : Quotient) → ¬ SpellsSecond (byte ∷ rest) minus a
-unfolding joint_byte
-no_second_sign byte rest plus dash true a s = dash (heads_equal byte 45 rest _ (second_head (byte ∷ rest) true a s))
-no_second_sign byte rest plus dash false a s = plus (heads_equal byte 43 rest _ (second_head (byte ∷ rest) false a s))
-
 begins_behind : (byte : ℕ) (rest : List ℕ) (minus : Bool) (a : Quotient) → SpellsSecond (byte ∷ rest) minus a → Begins rest a (114 ∷ [])
 begins_behind byte rest minus a s =
     record { whole = tails_equal byte (joint_byte minus) rest (quotient_text a ++ 114 ∷ []) (second_head (byte ∷ rest) minus a s); digits = s.digits; ends = r_stops a.under }
-
--- where no quotient stands behind the sign, it spells none
-pub no_second_quotient : (byte : ℕ) (rest : List ℕ) → ((a : Quotient) (tail : List ℕ) → ¬ Begins rest a tail) → (minus : Bool) (a : Quotient) → ¬ SpellsSecond (byte ∷ rest) minus a
-no_second_quotient byte rest none minus a s = none a (114 ∷ []) (begins_behind byte rest minus a s)
 
 -- where no r alone stands behind the quotient, it spells none
 pub no_second_letter : (byte : ℕ) (rest : List ℕ) (b : Quotient) (tail : List ℕ) → Begins rest b tail → tail ≢ 114 ∷ [] → (minus : Bool) (a : Quotient) → ¬ SpellsSecond (byte ∷ rest) minus a
