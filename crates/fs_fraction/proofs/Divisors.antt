@@ -3,7 +3,7 @@ use Rattle.std.proofs.Common.{◌≡◌, ℕ, ◌*◌, ◌/◌, ◌%◌, ◌<◌
 use Rattle.std.proofs.Math.Nat.{mod-lt, mul-pos, div-mul_cancel, mul-dvd-mul_right, eq-zero_of_zero-dvd}
 use Rattle.std.proofs.lemmas.Nat.Gcd.{IsGcd-from_zero, IsGcd-from_mod, dvd_trans, le_of_dvd}
 use Rattle.std.specs.Int.{IsGcd, ◌∣◌}
-use Rattle.fs_fraction.specs.Divisor.{gcd_within, gcd}
+use Rattle.fs_fraction.specs.Divisor.{IsGreatestDivisor, gcd_within, gcd}
 
 gcd_within-is : (steps a b : ℕ) → b ≤ steps → IsGcd a b (gcd_within steps a b)
 unfolding gcd_within
@@ -16,6 +16,9 @@ gcd_within-is (suc steps) a (suc b) h =
 pub gcd-is : (a b : ℕ) → IsGcd a b (gcd a b)
 unfolding gcd
 gcd-is a b = gcd_within-is b a b (omega arith)
+
+pub gcd-greatest : (a b : ℕ) → IsGreatestDivisor a b (gcd a b)
+gcd-greatest a b = let g = gcd-is a b in record { first = g.0; second = g.1; greatest = g.2 }
 
 -- ---- the greatest common divisor of three numbers
 
@@ -84,7 +87,3 @@ gcd_at_most_first a b up = divisor_at_most (gcd a b) a ((gcd-is a b).0) up
 -- the least common multiple is above 0
 pub multiple_positive : (a b : ℕ) → 0 < a → 0 < b → 0 < a * (b / gcd a b)
 multiple_positive a b left right = mul-pos left (quotient_positive (gcd a b) b ((gcd-is a b).1) right)
-
--- so is what is left of two numbers, each divided by a common divisor of it
-pub rests_positive : (a b m n : ℕ) → 0 < m → 0 < n → 0 < (m / gcd b m) * (n / gcd a n)
-rests_positive a b m n left right = mul-pos (quotient_positive (gcd b m) m ((gcd-is b m).1) left) (quotient_positive (gcd a n) n ((gcd-is a n).1) right)
