@@ -154,6 +154,7 @@ impl Surface {
         // It keeps the vertex.
         ensures vertex { AreOnePoint self.now.polygons c result }
     {
+        // A look at a field makes the invariant of the type known here.
         let _ = &self.polygons;
         self.partner(self.side_before(c))
     }
