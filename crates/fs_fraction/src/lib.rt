@@ -9,4 +9,5 @@ mod tests;
 mod width;
 
 pub use arithmetic::{add, div, inv, mul, sub};
+pub use divisor::greatest_divisor;
 pub use fraction::{Frac, FracStop};
