@@ -3,7 +3,7 @@ use Rattle.std.proofs.Common.{◌≡◌, ℕ, ◌*◌, ◌/◌, ◌%◌, ◌<◌
 use Rattle.std.proofs.Math.Nat.{mod-lt, mul-pos, div-mul_cancel, mul-dvd-mul_right, eq-zero_of_zero-dvd}
 use Rattle.std.proofs.lemmas.Nat.Gcd.{IsGcd-from_zero, IsGcd-from_mod, dvd_trans, le_of_dvd}
 use Rattle.std.specs.Int.{IsGcd, ◌∣◌}
-use Rattle.fs_fraction.specs.Divisor.{gcd_within, gcd}
+use Rattle.fs_fraction.specs.Divisor.{IsGreatestDivisor, gcd_within, gcd}
 
 gcd_within-is : (steps a b : ℕ) → b ≤ steps → IsGcd a b (gcd_within steps a b)
 unfolding gcd_within
@@ -16,6 +16,9 @@ gcd_within-is (suc steps) a (suc b) h =
 pub gcd-is : (a b : ℕ) → IsGcd a b (gcd a b)
 unfolding gcd
 gcd-is a b = gcd_within-is b a b (omega arith)
+
+pub gcd-greatest : (a b : ℕ) → IsGreatestDivisor a b (gcd a b)
+gcd-greatest a b = let g = gcd-is a b in record { first = g.0; second = g.1; greatest = g.2 }
 
 -- ---- the greatest common divisor of three numbers
 

@@ -10,7 +10,7 @@ use Rattle.fs_quadratic.proofs.Laws.{quadratic_eq}
 use Rattle.fs_ring.proofs.Integers.{integer_ring}
 use Rattle.fs_ring.proofs.Solver.{identity, negative, ◌⊗◌, ◌≐◌}
 use Rattle.fs_fraction.specs.Divisor.{gcd, content}
-use Rattle.fs_fraction.specs.Fraction.{IsLowest, HasValue, reduced}
+use Rattle.fs_fraction.specs.Fraction.{IsLowest, IsReduced, HasValue, reduced}
 use Rattle.fs_fraction.proofs.Divisors.{first_multiple, second_multiple, third_multiple, gcd_positive, gcd_at_most, gcd_positive_first, gcd_at_most_first, quotient_positive, quotients_coprime}
 
 size-neg : (n : ℕ) → unsigned_abs (neg_ℤ (pos n)) ≡ n
@@ -49,17 +49,24 @@ reduced-value num den =
     (cross (pos g) (int_div num.p (pos g)) num.p (pos (den / g)) (pos den) (quotient_times num.p g (first_multiple a b den)) third)
     (cross (pos g) (int_div num.q (pos g)) num.q (pos (den / g)) (pos den) (quotient_times num.q g (second_multiple a b den)) third)
 
+-- their denominator is above 0
+pub reduced-positive : (num : Quadratic) (den : ℕ) → 0 < den → 0 < (reduced num den).den
+reduced-positive num den up = quotient_positive (gcd (content num) den) den (third_multiple (unsigned_abs num.p) (unsigned_abs num.q) den) up
+
+-- 1 is their only common divisor
+pub reduced-coprime : (num : Quadratic) (den : ℕ) → 0 < den → IsReduced (reduced num den).num (reduced num den).den
+reduced-coprime num den up k hp hq hd =
+    let g = gcd (content num) den in
+    quotients_coprime (unsigned_abs num.p) (unsigned_abs num.q) den k up (subst (λ n. k ∣ n) (size-quotient num.p g) hp) (subst (λ n. k ∣ n) (size-quotient num.q g) hq) hd
+
 -- they are in lowest terms
 pub reduced-lowest : (num : Quadratic) (den : ℕ) → 0 < den → den < 2 ^ 127 → IsLowest (reduced num den).num (reduced num den).den
 reduced-lowest num den up within =
-    let a = unsigned_abs num.p in
-    let b = unsigned_abs num.q in
-    let g = gcd (content num) den in
-    let smaller = div-le_self den g in
+    let smaller = div-le_self den (gcd (content num) den) in
     record {
-      positive = quotient_positive g den (third_multiple a b den) up;
+      positive = reduced-positive num den up;
       within = omega arith;
-      reduced = λ k hp hq hd. quotients_coprime a b den k up (subst (λ n. k ∣ n) (size-quotient num.p g) hp) (subst (λ n. k ∣ n) (size-quotient num.q g) hq) hd;
+      reduced = reduced-coprime num den up;
     }
 
 pub size-negated : (z : ℤ) → unsigned_abs (neg_ℤ z) ≡ unsigned_abs z

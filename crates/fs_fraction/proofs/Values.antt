@@ -1,5 +1,5 @@
 -- Fractions and the numbers that they stand for: equal values are one fraction, and sums and products are those of the values.
-use Rattle.std.proofs.Common.{◌≡◌, ◌≢◌, ℕ, ℤ, pos, negsuc, neg_ℤ, ◌+ℤ◌, ◌-ℤ◌, ◌*ℤ◌, ◌+◌, ◌*◌, ◌/◌, ◌%◌, ◌<◌, ◌≤◌, ◌^◌, zero, suc, [], ◌∷◌, refl, sym, ◌∙◌, ap, subst, arith}
+use Rattle.std.proofs.Common.{◌≡◌, ◌≢◌, ℕ, ℤ, pos, negsuc, neg_ℤ, ◌+ℤ◌, ◌-ℤ◌, ◌*ℤ◌, ◌+◌, ◌*◌, ◌/◌, ◌%◌, ◌<◌, ◌≤◌, zero, suc, [], ◌∷◌, refl, sym, ◌∙◌, ap, subst, arith}
 use Rattle.std.proofs.Math.Nat.{mod-lt, mul-pos, mul-lt-mul_of_pos_left, mul-add-mod_self_left, mod-eq_of_lt, mul-zero, dvd-mul_right, mul-div_cancel'}
 use Rattle.std.proofs.lemmas.Nat.Gcd.{IsGcd-from_zero, IsGcd-from_mod, same_from_IsGcd, dvd_antisymm}
 use Rattle.std.proofs.lemmas.Int.{ints, unsigned_abs-mul}
@@ -14,11 +14,11 @@ use Rattle.fs_quadratic.specs.Ring.{Quadratic, add, sub, neg, mul, sign, compare
 use Rattle.fs_quadratic.proofs.Excess.{sign-positive_mul}
 use Rattle.fs_quadratic.proofs.Laws.{quadratic_eq}
 use Rattle.fs_fraction.specs.Divisor.{gcd_within, gcd, content, divide}
-use Rattle.fs_fraction.specs.Fraction.{Fraction, IsLowest, HasValue, reduced, scale}
+use Rattle.fs_fraction.specs.Fraction.{Fraction, IsLowest, IsReduced, HasValue, reduced, scale}
 use Rattle.fs_fraction.specs.Arithmetic.{negated, sum, product, shared, rest_num, rest_den, left_num, right_num, common_den, conjugate, norm, with_sign, primitive, inner, inverse_num, inverse_den, reciprocal}
 use Rattle.fs_fraction.proofs.Inverses.{inverse_den_positive}
-use Rattle.fs_fraction.proofs.Divisors.{gcd-is, quotient_positive, multiple_positive, first_multiple, second_multiple, third_multiple, greatest}
-use Rattle.fs_fraction.proofs.Lowest.{reduced-value, reduced-lowest, quotient_times}
+use Rattle.fs_fraction.proofs.Divisors.{gcd-is, multiple_positive, first_multiple, second_multiple, third_multiple, greatest}
+use Rattle.fs_fraction.proofs.Lowest.{reduced-value, reduced-positive, reduced-coprime, quotient_times}
 
 -- ---- common divisors of multiples
 
@@ -49,14 +49,14 @@ pub gcd-scale : (k a b : ℕ) → 0 < k → gcd (k * a) (k * b) ≡ k * gcd a b
 gcd-scale k a b up = same_from_IsGcd (k * a) (k * b) (gcd (k * a) (k * b)) (k * gcd a b) (gcd-is (k * a) (k * b)) (scaled k a b up)
 
 -- the three numbers of a fraction in lowest terms have the greatest common divisor 1
-pub lowest-gcd : (num : Quadratic) (den : ℕ) → IsLowest num den → gcd (content num) den ≡ 1
+lowest-gcd : (num : Quadratic) (den : ℕ) → IsReduced num den → gcd (content num) den ≡ 1
 lowest-gcd num den l =
     let a = unsigned_abs num.p in
     let b = unsigned_abs num.q in
-    l.reduced (gcd (content num) den) (first_multiple a b den) (second_multiple a b den) (third_multiple a b den)
+    l (gcd (content num) den) (first_multiple a b den) (second_multiple a b den) (third_multiple a b den)
 
 -- a divisor of n times each part of a numerator in lowest terms, which the denominator is, divides n
-den_divides : (num : Quadratic) (den n : ℕ) → IsLowest num den → 0 < n → den ∣ n * unsigned_abs num.p → den ∣ n * unsigned_abs num.q → den ∣ n
+den_divides : (num : Quadratic) (den n : ℕ) → IsReduced num den → 0 < n → den ∣ n * unsigned_abs num.p → den ∣ n * unsigned_abs num.q → den ∣ n
 den_divides num den n l up hp hq =
     let a = unsigned_abs num.p in
     let b = unsigned_abs num.q in
@@ -75,17 +75,21 @@ cancel n z w up e = mul_left_cancel integer_order (pos n) z w (λ none. absurd (
 fraction_eq : {x y : Fraction} → x.num ≡ y.num → x.den ≡ y.den → x ≡ y
 fraction_eq e f = λ i. record { num = e i; den = f i }
 
--- two fractions in lowest terms with the same value are one
-pub equal_fractions : (x y : Fraction) → IsLowest x.num x.den → IsLowest y.num y.den → HasValue x y.num y.den → x ≡ y
-equal_fractions x y lx ly e =
+-- two reduced fractions with the same value are one
+equal_reduced : (x y : Fraction) → 0 < x.den → 0 < y.den → IsReduced x.num x.den → IsReduced y.num y.den → HasValue x y.num y.den → x ≡ y
+equal_reduced x y up_x up_y rx ry e =
     let p : pos y.den *ℤ x.num.p ≡ pos x.den *ℤ y.num.p = ap (λ (z : Quadratic). z.p) e in
     let q : pos y.den *ℤ x.num.q ≡ pos x.den *ℤ y.num.q = ap (λ (z : Quadratic). z.q) e in
-    let there : y.den ∣ x.den = den_divides y.num y.den x.den ly lx.positive (size_divides y.den x.den x.num.p y.num.p p) (size_divides y.den x.den x.num.q y.num.q q) in
-    let back : x.den ∣ y.den = den_divides x.num x.den y.den lx ly.positive (size_divides x.den y.den y.num.p x.num.p (sym p)) (size_divides x.den y.den y.num.q x.num.q (sym q)) in
+    let there : y.den ∣ x.den = den_divides y.num y.den x.den ry up_x (size_divides y.den x.den x.num.p y.num.p p) (size_divides y.den x.den x.num.q y.num.q q) in
+    let back : x.den ∣ y.den = den_divides x.num x.den y.den rx up_y (size_divides x.den y.den y.num.p x.num.p (sym p)) (size_divides x.den y.den y.num.q x.num.q (sym q)) in
     let same : x.den ≡ y.den = dvd_antisymm back there in
     fraction_eq (quadratic_eq
-    (cancel y.den x.num.p y.num.p ly.positive (p ∙ ap (λ (n : ℕ). pos n *ℤ y.num.p) same))
-    (cancel y.den x.num.q y.num.q ly.positive (q ∙ ap (λ (n : ℕ). pos n *ℤ y.num.q) same))) same
+    (cancel y.den x.num.p y.num.p up_y (p ∙ ap (λ (n : ℕ). pos n *ℤ y.num.p) same))
+    (cancel y.den x.num.q y.num.q up_y (q ∙ ap (λ (n : ℕ). pos n *ℤ y.num.q) same))) same
+
+-- two fractions in lowest terms with the same value are one
+pub equal_fractions : (x y : Fraction) → IsLowest x.num x.den → IsLowest y.num y.den → HasValue x y.num y.den → x ≡ y
+equal_fractions x y lx ly e = equal_reduced x y lx.positive ly.positive lx.reduced ly.reduced e
 
 across : (x : Fraction) (den : ℕ) (z r rd : ℤ) (f : ℤ) → 0 < den → pos den *ℤ r ≡ rd *ℤ z → pos den *ℤ f ≡ pos x.den *ℤ z → rd *ℤ f ≡ pos x.den *ℤ r
 across x den z r rd f up hr hf =
@@ -97,11 +101,11 @@ across x den z r rd f up hr hf =
     ∙ identity integer_ring (pos x.den ∷ pos den ∷ r ∷ []) (λ m n r. m ⊗ (n ⊗ r) ≐ n ⊗ (m ⊗ r)) refl))))
 
 -- a fraction in lowest terms that stands for num/den is that number reduced
-pub reduced-unique : (x : Fraction) (num : Quadratic) (den : ℕ) → IsLowest x.num x.den → 0 < den → den < 2 ^ 127 → HasValue x num den → x ≡ reduced num den
-reduced-unique x num den l up within h =
+pub reduced-unique : (x : Fraction) (num : Quadratic) (den : ℕ) → IsLowest x.num x.den → 0 < den → HasValue x num den → x ≡ reduced num den
+reduced-unique x num den l up h =
     let r = reduced num den in
     let v = reduced-value num den in
-    equal_fractions x r l (reduced-lowest num den up within)
+    equal_reduced x r l.positive (reduced-positive num den up) l.reduced (reduced-coprime num den up)
     (quadratic_eq
     (across x den num.p r.num.p (pos r.den) x.num.p up (ap (λ (z : Quadratic). z.p) v) (ap (λ (z : Quadratic). z.p) h))
     (across x den num.q r.num.q (pos r.den) x.num.q up (ap (λ (z : Quadratic). z.q) v) (ap (λ (z : Quadratic). z.q) h)))
@@ -192,13 +196,10 @@ less z m w = ap (λ (v : ℤ). z +ℤ v) (identity integer_ring (m ∷ w ∷ [])
 crosswise : (m n : ℕ) (x y : Quadratic) → add (scale n x) (scale m (neg y)) ≡ sub (scale n x) (scale m y)
 crosswise m n x y = quadratic_eq (less (pos n *ℤ x.p) (pos m) y.p) (less (pos n *ℤ x.q) (pos m) y.q)
 
-reduced_den-positive : (num : Quadratic) (den : ℕ) → 0 < den → 0 < (reduced num den).den
-reduced_den-positive num den up = quotient_positive (gcd (content num) den) den (third_multiple (unsigned_abs num.p) (unsigned_abs num.q) den) up
-
 -- the difference has the sign by which the fractions compare crosswise
 pub difference-sign : {d : ℕ} → IsNoSquare d → (x y : Fraction) → IsLowest x.num x.den → IsLowest y.num y.den → sign d (sum x (negated y)).num ≡ compare d (scale y.den x.num) (scale x.den y.num)
 difference-sign {d} no_square x y lx ly =
-    let up = reduced_den-positive (add (left_num x (negated y)) (right_num x (negated y))) (common_den x (negated y)) (multiple_positive x.den y.den lx.positive ly.positive) in
+    let up = reduced-positive (add (left_num x (negated y)) (right_num x (negated y))) (common_den x (negated y)) (multiple_positive x.den y.den lx.positive ly.positive) in
     value-sign no_square (sum x (negated y)) (add (scale y.den x.num) (scale x.den (neg y.num))) (x.den * y.den) up (mul-pos lx.positive ly.positive) (sum-value x (negated y))
     ∙ (ap (sign d) (crosswise x.den y.den x.num y.num) ∙ sym (compare-is d (scale y.den x.num) (scale x.den y.num)))
 

@@ -1,6 +1,13 @@
 -- Greatest common divisors.
 use Rattle.std.specs.Prelude.{ℕ, zero, suc, ◌%◌, pos, unsigned_abs, int_div}
+use Rattle.std.specs.Int.{◌∣◌}
 use Rattle.fs_quadratic.specs.Ring.{Quadratic}
+
+-- g divides both numbers, and each common divisor divides g
+pub record IsGreatestDivisor (a b g : ℕ) : Type 0 where
+  pub first : g ∣ a
+  pub second : g ∣ b
+  pub greatest : (k : ℕ) → k ∣ a → k ∣ b → k ∣ g
 
 -- Euclid's remainders, at most so many
 unfoldable pub gcd_within : ℕ → ℕ → ℕ → ℕ

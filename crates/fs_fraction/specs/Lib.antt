@@ -1,3 +1,5 @@
 pub mod Divisor
 pub mod Fraction
 pub mod Arithmetic
+pub mod Number
+pub mod Parts

@@ -2,12 +2,22 @@
 #![tactic(auto)]
 
 mod arithmetic;
+mod digits;
 mod divisor;
 mod fraction;
+mod memory;
+mod number;
+mod spelling;
+#[cfg(test)]
+mod spelling_tests;
 #[cfg(test)]
 mod tests;
+mod value;
 mod width;
+mod written;
 
 pub use arithmetic::{add, div, inv, mul, sub};
 pub use divisor::greatest_divisor;
 pub use fraction::{Frac, FracStop};
+pub use memory::NoMemory;
+pub use number::{NumberFault, print_number, read_number};

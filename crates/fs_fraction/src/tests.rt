@@ -4,11 +4,12 @@ use std::process::Abort;
 use std::test::Fail;
 
 // Expected values of these tables were computed with whole numbers of any size. Each number on
-// the way that can leave the width alone does so in a row, and is within it by little in another.
-type Parts = (i128, i128, i128);
+// the way that can leave the width alone does so in a row, and is within it by little in another;
+// q·q leaves it together with d·q·q.
+pub(crate) type Parts = (i128, i128, i128);
 
 // Two fractions as p, q and the denominator, and their sum where it fits.
-const SUMS: [(Parts, Parts, Option<Parts>); 16] = [
+const SUMS: [(Parts, Parts, Option<Parts>); 19] = [
     ((1, 1, 2), (1, -1, 3), Some((5, 1, 6))),
     ((1, 0, 6), (1, 0, 3), Some((1, 0, 2))),
     (
@@ -165,10 +166,25 @@ const SUMS: [(Parts, Parts, Option<Parts>); 16] = [
         ),
         None,
     ),
+    (
+        (85070591730234615865843651857942052864, 0, 1),
+        (-1, 0, 2),
+        None,
+    ),
+    (
+        (170141183460469231731687303715884105727, 0, 1),
+        (1, 0, 1),
+        None,
+    ),
+    (
+        (0, -170141183460469231731687303715884105727, 1),
+        (0, -1, 1),
+        None,
+    ),
 ];
 
 // d, two fractions, and their product where it fits.
-const PRODUCTS: [(u16, Parts, Parts, Option<Parts>); 14] = [
+const PRODUCTS: [(u16, Parts, Parts, Option<Parts>); 27] = [
     (2, (1, 1, 2), (2, -2, 3), Some((-1, 0, 3))),
     (
         3,
@@ -308,10 +324,92 @@ const PRODUCTS: [(u16, Parts, Parts, Option<Parts>); 14] = [
         (-9223372036854775809, 4611686018427387903, 8796093022208),
         None,
     ),
+    (
+        2,
+        (170141183460469231731687303715884105727, 0, 1),
+        (1, 0, 1),
+        Some((170141183460469231731687303715884105727, 0, 1)),
+    ),
+    (
+        2,
+        (18446744073709551616, 1, 1),
+        (-9223372036854775808, 1, 1),
+        None,
+    ),
+    (
+        2,
+        (0, 18446744073709551616, 1),
+        (0, 9223372036854775808, 1),
+        None,
+    ),
+    (
+        2,
+        (0, 18446744073709551616, 1),
+        (0, -9223372036854775808, 1),
+        None,
+    ),
+    (
+        2,
+        (1, 9223372036854775808, 1),
+        (2, -9223372036854775808, 1),
+        None,
+    ),
+    (
+        2,
+        (0, -1, 1),
+        (0, 85070591730234615865843651857942052863, 1),
+        Some((-170141183460469231731687303715884105726, 0, 1)),
+    ),
+    (
+        2,
+        (18446744073709551616, 1, 1),
+        (3, -9223372036854775808, 1),
+        None,
+    ),
+    (
+        2,
+        (-1, 0, 1),
+        (0, 170141183460469231731687303715884105727, 1),
+        Some((0, -170141183460469231731687303715884105727, 1)),
+    ),
+    (
+        2,
+        (2, 1, 1),
+        (85070591730234615865843651857942052863, 1, 1),
+        None,
+    ),
+    (
+        2,
+        (2, 1, 1),
+        (-85070591730234615865843651857942052863, -1, 1),
+        None,
+    ),
+    (
+        2,
+        (1, 1, 1),
+        (170141183460469231731687303715884105725, 1, 1),
+        Some((
+            170141183460469231731687303715884105727,
+            170141183460469231731687303715884105726,
+            1,
+        )),
+    ),
+    (
+        2,
+        (1, 2, 1),
+        (85070591730234615865843651857942052863, 2, 1),
+        None,
+    ),
+    (
+        2,
+        (1, 2, 1),
+        (-85070591730234615865843651857942052863, -2, 1),
+        None,
+    ),
 ];
 
 // d, a fraction other than 0, and its inverse where it fits.
-const INVERSES: [(u16, Parts, Option<Parts>); 13] = [
+const INVERSES: [(u16, Parts, Option<Parts>); 20] = [
     (2, (1, 1, 2), Some((-2, 2, 1))),
     (3, (-3, 0, 5), Some((-5, 0, 3))),
     (
@@ -397,6 +495,29 @@ const INVERSES: [(u16, Parts, Option<Parts>); 13] = [
         ),
         None,
     ),
+    (
+        2,
+        (13043817825332782212, 1, 1),
+        Some((
+            13043817825332782212,
+            -1,
+            170141183460469231722567801800623612942,
+        )),
+    ),
+    (2, (13043817825332782213, 9223372036854775807, 1), None),
+    (2, (1, 13043817825332782213, 1), None),
+    (2, (-9223372036854775808, 1, 18446744073709551616), None),
+    (
+        2,
+        (1, 0, 170141183460469231731687303715884105727),
+        Some((170141183460469231731687303715884105727, 0, 1)),
+    ),
+    (2, (1, 4611686018427387904, 36893488147419103232), None),
+    (
+        2,
+        (0, 1, 170141183460469231731687303715884105727),
+        Some((0, 170141183460469231731687303715884105727, 2)),
+    ),
 ];
 
 // d, two fractions, and their quotient where it fits.
@@ -430,7 +551,7 @@ const QUOTIENTS: [(u16, Parts, Parts, Option<Parts>); 7] = [
     ),
 ];
 
-fn frac(rt: &impl Abort, parts: Parts) -> Frac {
+pub(crate) fn frac(rt: &impl Abort, parts: Parts) -> Frac {
     let (p, q, den) = parts;
     assert!(rt; p != i128::MIN);
     assert!(rt; q != i128::MIN);

@@ -1,7 +1,7 @@
 use Rattle.std.proofs.Common.{◌≡◌}
 use Rattle.std.proofs.lemmas.Nat.Gcd.{IsGcd-from_zero, IsGcd-from_mod, same_from_IsGcd}
 use Rattle.fs_fraction.specs.Divisor.{gcd}
-use Rattle.fs_fraction.proofs.Divisors.{gcd-is, gcd_positive, gcd_at_most}
+use Rattle.fs_fraction.proofs.Divisors.{gcd-is, gcd-greatest, gcd_positive, gcd_at_most}
 use Rattle.fs_fraction.proofs.divisor.greatest_divisor.Goals as goal
 
 pub loop-smaller-preserved : goal.loop-smaller-preserved
@@ -12,6 +12,7 @@ returns c =
     let same : c.loop-smaller.larger ≡ gcd c.args.a c.args.b = same_from_IsGcd c.args.a c.args.b _ _ (c.loop-smaller.invariant _ (IsGcd-from_zero c.loop-smaller.larger c.loop-smaller.smaller c.loop-smaller-test.false)) (gcd-is c.args.a c.args.b) in
     record {
       value = same;
+      greatest = rw same (gcd-greatest c.args.a c.args.b);
       positive = λ up. rw same (gcd_positive c.args.a c.args.b up);
       at_most = λ up. rw same (gcd_at_most c.args.a c.args.b up);
     }
