@@ -5,7 +5,7 @@ use Rattle.fs_quadratic.specs.Radicand.{IsRadicand}
 use Rattle.fs_fraction.specs.Fraction.{Fraction}
 use Rattle.fs_fraction.specs.Number.{Reads}
 use Rattle.fs_fraction.specs.declared.number.NumberFault.{NumberFault}
-use Rattle.fs_fraction.specs.declared.number.NumberFault.TheVariants as unread
+use Rattle.fs_fraction.specs.declared.number.NumberFault.TheVariants as number_faults
 use Rattle.fs_plane.specs.declared.corners.Corner.{Corner}
 use Rattle.fs_gluing.specs.declared.faults.Fault.{Fault}
 use Rattle.fs_gluing.specs.declared.faults.Fault.TheVariants as faults
@@ -78,8 +78,8 @@ pub record FirstUnread (texts : List (List ℕ)) (fault : NumberFault) : Type 0 
   pub fails : Reads text (Err fault)
 
 abbrev pub number_fault : ℕ → NumberFault → Fault
-number_fault n unread.BadNumber = faults.BadNumber n
-number_fault n unread.Wide = faults.Wide n
+number_fault n number_faults.BadNumber = faults.BadNumber n
+number_fault n number_faults.Wide = faults.Wide n
 
 -- what is stated makes sense: d is the d of a field
 abbrev pub MakesSense : Statement → Type 0
