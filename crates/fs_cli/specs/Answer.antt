@@ -1,15 +1,20 @@
 -- The whole answer to the bytes of a job: what is written, and the status.
-use Rattle.std.specs.Prelude.{◌≡◌, ℕ, ◌<◌, ◌≤◌, List, [], ◌++◌, length, sum_by}
-use Rattle.std.specs.List.{AllByRecursion}
+use Rattle.std.specs.Prelude.{◌≡◌, ℕ, ◌<◌, ◌≤◌, if◌then◌else◌, List, [], ◌∷◌, ◌++◌, length}
+use Rattle.std.specs.List.{AllByRecursion, list_any}
 use Rattle.fs_io.specs.Whole.{most_bytes}
-use Rattle.fs_gluing.specs.declared.faults.Fault.TheVariants.{BadLine, TooLong}
+use Rattle.fs_gluing.specs.declared.faults.Fault.{Fault}
+use Rattle.fs_gluing.specs.declared.faults.Fault.TheVariants.{TooLong}
 use Rattle.fs_gluing.specs.declared.faults.BuildStop.{BuildStop}
 use Rattle.fs_gluing.specs.declared.faults.BuildStop.TheVariants as stops
+use Rattle.fs_gluing.specs.declared.shapes.Shape.{Shape}
+use Rattle.fs_gluing.specs.Shape.{HasShape}
+use Rattle.fs_gluing.specs.Surface.{GluedPolygons, IsSurface}
 use Rattle.fs_gluing.specs.FirstFault.{Test, PassesOf, tests_of, IsFirstFailure, answer}
+use Rattle.fs_job.specs.declared.job.Command.{Command}
+use Rattle.fs_job.specs.Grammar.{Draft, ReadsJob, IsFirstFault}
+use Rattle.fs_report.specs.Text.{fault_text, build_text, command_text, is_partial}
 use Rattle.fs_cli.specs.declared.outcome.Status.{Status}
 use Rattle.fs_cli.specs.declared.outcome.Status.TheVariants as status
-use Rattle.fs_cli.specs.Text.{fault_text, build_text, check_text}
-use Rattle.fs_cli.specs.ThinJob.{Job, lines_of, IsThin, IsBadLine}
 
 -- what is written where a shape isn't built: its fault, or the site
 abbrev pub stop_text : BuildStop → List ℕ
@@ -22,16 +27,32 @@ stop_status (stops.Fault fault) = status.Refused
 stop_status (stops.Overflow site) = status.Partial
 stop_status stops.NoMemory = status.NoMemory
 
+-- the shape that a job describes
+abbrev pub shape_of : Draft → Shape
+shape_of draft = record { polygons = draft.polygons; glues = draft.glues }
+
+-- the answers of commands, one behind the other
+abbrev pub texts : GluedPolygons → List Command → List ℕ
+texts s [] = []
+texts s (command ∷ commands) = command_text s command ++ texts s commands
+
+-- the status of commands: one without a whole answer makes it partial
+abbrev pub status_of : GluedPolygons → List Command → Status
+status_of s commands = if list_any (is_partial s) commands then status.Partial else status.Done
+
 -- the bytes are answered with this output and this status, for one of four reasons
 pub data IsAnswered (bytes output : List ℕ) (result : Status) : Type 0 where
   -- there are too many bytes
   Too_long : most_bytes < length bytes → result ≡ status.Refused → output ≡ fault_text TooLong → IsAnswered bytes output result
-  -- the lines are no thin job
-  Bad_line : (number : ℕ) → length bytes ≤ most_bytes → IsBadLine (lines_of bytes) number → result ≡ status.Refused → output ≡ fault_text (BadLine number) → IsAnswered bytes output result
+  -- they are no job
+  At_fault : (fault : Fault) → length bytes ≤ most_bytes → IsFirstFault bytes fault → result ≡ status.Refused → output ≡ fault_text fault → IsAnswered bytes output result
   -- the shape fails a test of building
-  Not_built : (job : Job) → (test : Test) → length bytes ≤ most_bytes → IsThin (lines_of bytes) job → IsFirstFailure job.d job.shape test → result ≡ stop_status (answer test) → output ≡ stop_text (answer test) → IsAnswered bytes output result
-  -- the surface is built, and counted
-  Built : (job : Job) → length bytes ≤ most_bytes → IsThin (lines_of bytes) job → AllByRecursion (PassesOf job.d job.shape) (tests_of job.shape) → result ≡ status.Done → output ≡ check_text (length job.shape.polygons) (sum_by length job.shape.polygons) → IsAnswered bytes output result
+  Not_built : (draft : Draft) → (test : Test) → length bytes ≤ most_bytes → ReadsJob bytes draft → IsFirstFailure draft.d (shape_of draft) test
+      → result ≡ stop_status (answer test) → output ≡ stop_text (answer test) → IsAnswered bytes output result
+  -- the surface of the shape is built, and the commands are answered in order
+  Answered : (draft : Draft) → (s : GluedPolygons) → length bytes ≤ most_bytes → ReadsJob bytes draft
+      → IsSurface s → HasShape draft.d (shape_of draft) s → AllByRecursion (PassesOf draft.d (shape_of draft)) (tests_of (shape_of draft))
+      → result ≡ status_of s draft.commands → output ≡ texts s draft.commands → IsAnswered bytes output result
 
 -- the number of a status
 abbrev pub exit_code : Status → ℕ

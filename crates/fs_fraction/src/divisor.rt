@@ -1,7 +1,7 @@
 ghost use Rattle.std.specs.Prelude.{◌≡◌, ◌<◌, ◌≤◌};
 ghost use Rattle.fs_fraction.specs.Divisor.{IsGreatestDivisor, gcd};
 
-// The greatest common divisor, by Euclid's remainders. It is 0 where both are.
+/// The greatest common divisor, by Euclid's remainders. It is 0 where both are.
 pub fn greatest_divisor(a: u128, b: u128) -> u128
     ensures value { result ≡ gcd a b }
     ensures greatest { IsGreatestDivisor a b result }

@@ -17,6 +17,7 @@ mod width;
 mod written;
 
 pub use arithmetic::{add, div, inv, mul, sub};
+pub use divisor::greatest_divisor;
 pub use fraction::{Frac, FracStop};
 pub use memory::NoMemory;
 pub use number::{NumberFault, print_number, read_number};

@@ -18,6 +18,7 @@ use Rattle.fs_gluing.specs.Convex.{Bend, IsClosed, TurnsLeft, TurnsOnce, bends, 
 use Rattle.fs_gluing.specs.Gluing.{IsPairOf}
 use Rattle.fs_gluing.specs.Polygons.{HasSide, at_side, all_sides}
 use Rattle.fs_gluing.specs.Reached.{IsReached}
+use Rattle.fs_gluing.specs.Scaling.{ScaleTest, Common_fits, Part_fits, PassesScale, scale_tests}
 use Rattle.fs_gluing.specs.Shape.{glued_sides, polygons_of, HasShape}
 use Rattle.fs_gluing.specs.Surface.{GluedPolygons, IsSurface}
 
@@ -92,6 +93,8 @@ line_tests earlier (g ∷ glues) = Present g ∷ Single earlier g ∷ Opposite g
 
 -- what is tested of a shape
 pub data Test : Type 0 where
+  -- while it is scaled
+  Scale : ScaleTest → Test
   -- of polygon i, which has these sides
   Polygon : (i : ℕ) → (polygon : List V2) → PolygonTest → Test
   -- of a glue line
@@ -110,6 +113,7 @@ pub record Joins (glues : List Glue) (i j : ℕ) : Type 0 where
   pub to : two.polygon ≡ j
 
 abbrev pub Passes : ℕ → List (List V2) → List Glue → Test → Type 0
+Passes d polygons glues (Scale test) = PassesScale test
 Passes d polygons glues (Polygon i polygon test) = PassesIn d polygon test
 Passes d polygons glues (Line test) = PassesLine polygons test
 Passes d polygons glues (Glued c) = Contains (glued_sides glues) c
@@ -120,7 +124,7 @@ abbrev pub tests_from : ℕ → List (List V2) → List Test
 tests_from i [] = []
 tests_from i (polygon ∷ polygons) = map (Polygon i polygon) (polygon_tests polygon) ++ tests_from (i + 1) polygons
 
--- the order: the polygons, the glue lines, the sides, and the polygons once more
+-- the order once a shape is scaled: the polygons, the glue lines, the sides, and the polygons once more
 abbrev pub tests : List (List V2) → List Glue → List Test
 tests polygons glues =
     tests_from 0 polygons
@@ -130,6 +134,8 @@ tests polygons glues =
 
 -- what is answered where a test fails
 abbrev pub answer : Test → BuildStop
+answer (Scale (Common_fits i j p m n)) = stops.Overflow (sites.Scale i j p)
+answer (Scale (Part_fits i j p k z)) = stops.Overflow (sites.Scale i j p)
 answer (Polygon i polygon Enough) = stops.Fault (faults.FewSides i)
 answer (Polygon i polygon (X_fits j)) = stops.Overflow (sites.Close i j 1)
 answer (Polygon i polygon (Y_fits j)) = stops.Overflow (sites.Close i j 2)
@@ -147,9 +153,9 @@ answer (Reached i) = stops.Fault (faults.Apart i)
 abbrev pub PassesOf : ℕ → Shape → Test → Type 0
 PassesOf d shape = Passes d (polygons_of shape) shape.glues
 
--- the tests of a shape in their order
+-- the tests of a shape in their order: scaling comes first
 abbrev pub tests_of : Shape → List Test
-tests_of shape = tests (polygons_of shape) shape.glues
+tests_of shape = map Scale (scale_tests shape.polygons) ++ tests (polygons_of shape) shape.glues
 
 -- the first test in the order that the shape fails
 abbrev pub IsFirstFailure : ℕ → Shape → Test → Type 0

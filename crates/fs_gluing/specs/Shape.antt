@@ -3,20 +3,16 @@ use Rattle.std.specs.Prelude.{◌≡◌, ℕ, pos, ◌<◌, ◌≤◌, List, ◌
 use Rattle.std.specs.List.{AllByRecursion, flat_map}
 use Rattle.fs_plane.specs.declared.corners.Corner.{Corner}
 use Rattle.fs_plane.specs.declared.vector.V2.{V2}
-use Rattle.fs_gluing.specs.declared.shapes.Point.{Point}
 use Rattle.fs_gluing.specs.declared.shapes.Glue.{Glue}
 use Rattle.fs_gluing.specs.declared.shapes.Shape.{Shape}
 use Rattle.fs_gluing.specs.declared.surfaces.Side.{Side}
 use Rattle.fs_gluing.specs.Polygons.{at_side}
+use Rattle.fs_gluing.specs.Scaling.{scaled, common_den}
 use Rattle.fs_gluing.specs.Surface.{GluedPolygons, side_vectors}
 
--- the vectors of a polygon
-abbrev pub vectors : List Point → List V2
-vectors polygon = map (λ p. record { x = p.x; y = p.y }) polygon
-
--- the vectors of a shape's polygons
+-- the vectors of a shape's polygons, times their least common denominator
 abbrev pub polygons_of : Shape → List (List V2)
-polygons_of shape = map vectors shape.polygons
+polygons_of shape = scaled shape.polygons
 
 -- the sides on the glue lines, in order
 abbrev pub glued_sides : List Glue → List Corner
@@ -33,9 +29,9 @@ pub record AreGlued (polygons : List (List Side)) (one two : Corner) : Type 0 wh
   pub forth : (side : Side) × (at_side polygons one ≡ Some side) × (side.partner ≡ two)
   pub back : (side : Side) × (at_side polygons two ≡ Some side) × (side.partner ≡ one)
 
--- the surface has the shape's polygons and is glued as its lines say
+-- the surface has the shape's polygons, times the least common denominator, and is glued as its lines say
 pub record HasShape (d : ℕ) (shape : Shape) (s : GluedPolygons) : Type 0 where
   pub field : s.d ≡ d
-  pub denominator : s.den ≡ pos 1
+  pub denominator : s.den ≡ pos (common_den shape.polygons)
   pub same_vectors : map side_vectors s.polygons ≡ polygons_of shape
   pub as_the_lines : AllByRecursion (λ g. AreGlued s.polygons g.one g.two) shape.glues

@@ -7,8 +7,22 @@ use std::alloc::{AllocError, AllocFailed};
 /// What is wrong with a job. Polygons and sides are numbered from 0, lines from 1.
 #[derive(Clone, Copy, Debug, PartialEq, Eq, Hash)]
 pub enum Fault {
-    /// The line doesn't belong into a job there.
+    /// The line has a byte other than a tab and those from the space to the tilde.
+    NotAscii { line: u32 },
+    /// The first line that isn't blank isn't the header, or there is none.
+    BadHeader,
+    /// The line may not come there, or has the wrong form.
     BadLine { line: u32 },
+    /// A text on the line is no number.
+    BadNumber { line: u32 },
+    /// The d is that of no field.
+    BadField,
+    /// A limit leaves no room for the line.
+    TooMany { line: u32 },
+    /// The last line doesn't come.
+    NoEnd,
+    /// A number on the line has a run of more than 18 digits.
+    Wide { line: u32 },
     /// The polygon has fewer than three sides.
     FewSides { polygon: u16 },
     /// The sides of the polygon don't sum to (0,0).

@@ -1,12 +1,12 @@
 use crate::sequence::Sequence;
+use fs_fraction::Frac;
 use fs_plane::Corner;
-use fs_quadratic::Elem;
 
 /// A vector of the plane in true size, as a job gives it.
 #[derive(Clone, Copy, Debug, PartialEq, Eq, Hash)]
 pub struct Point {
-    pub x: Elem,
-    pub y: Elem,
+    pub x: Frac,
+    pub y: Frac,
 }
 
 /// Two sides that are glued, and the line of the job that says so.

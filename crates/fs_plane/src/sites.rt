@@ -6,6 +6,10 @@ pub struct Place(pub u32);
 /// numbers stand in the order in which they are printed.
 #[derive(Clone, Copy, Debug, PartialEq, Eq, Hash)]
 pub enum Site {
+    /// A coordinate of side `side` of a polygon, times the common denominator: places 1 and 2 are
+    /// the common denominator up to its x and its y, places 3 and 4 the parts of x, 5 and 6 those
+    /// of y.
+    Scale { polygon: u32, side: u32, place: u32 },
     /// The place of vertex `side` of a polygon plus that side: place 1 is x, place 2 is y.
     Close { polygon: u32, side: u32, place: u32 },
     /// The cross product of the two sides at a corner, by its three places.

@@ -1,0 +1,14 @@
+-- How a site is printed: its name, and its numbers.
+use Rattle.std.specs.Prelude.{ℕ, List, ◌++◌, codes}
+use Rattle.std.specs.Fmt.{decimal}
+use Rattle.fs_plane.specs.declared.sites.Site.{Site}
+use Rattle.fs_plane.specs.declared.sites.Site.TheVariants.{Scale, Close, Corner}
+
+-- three numbers with a space before each
+abbrev pub three_numbers : ℕ → ℕ → ℕ → List ℕ
+three_numbers i j p = codes " " ++ decimal i ++ codes " " ++ decimal j ++ codes " " ++ decimal p
+
+abbrev pub site_text : Site → List ℕ
+site_text (Scale polygon side place) = codes "scale" ++ three_numbers polygon side place
+site_text (Close polygon side place) = codes "close" ++ three_numbers polygon side place
+site_text (Corner polygon side place) = codes "corner" ++ three_numbers polygon side place

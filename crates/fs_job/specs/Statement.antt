@@ -1,0 +1,71 @@
+-- What a line of a job states, as far as its form goes: numbers are still texts.
+use Rattle.std.specs.Prelude.{◌≡◌, ℕ, ◌≤◌, List, [], ◌∷◌, ◌==◌, length, Contains, codes}
+use Rattle.std.specs.List.{flat_map}
+use Rattle.std.specs.Str.Parse.{IsNumeral, digits_value}
+use Rattle.fs_plane.specs.declared.corners.Corner.{Corner}
+use Rattle.fs_job.specs.declared.job.Command.{Command}
+use Rattle.fs_job.specs.declared.job.Command.TheVariants.{Check}
+use Rattle.fs_job.specs.Pieces.{pieces}
+
+-- one to `most` decimal digits, and the number that they stand for
+pub record SpellsNumeral (most : ℕ) (text : List ℕ) (n : ℕ) : Type 0 where
+  pub digits : IsNumeral 10 text
+  pub few : length text ≤ most
+  pub value : n ≡ digits_value 10 text
+
+-- i.j, each of one to four digits
+pub record SpellsCorner (text : List ℕ) (c : Corner) : Type 0 where
+  pub polygon_text : List ℕ
+  pub side_text : List ℕ
+  pub whole : pieces (λ b. b == 46) text ≡ polygon_text ∷ side_text ∷ []
+  pub polygon : SpellsNumeral 4 polygon_text c.polygon
+  pub side : SpellsNumeral 4 side_text c.side
+
+-- the texts of two numbers
+pub record Pair : Type 0 where
+  pub x : List ℕ
+  pub y : List ℕ
+
+-- x,y: the word has exactly one comma
+abbrev pub IsPair : List ℕ → Pair → Type 0
+IsPair word pair = pieces (λ b. b == 44) word ≡ pair.x ∷ pair.y ∷ []
+
+-- word for word
+abbrev pub ArePairs : List (List ℕ) → List Pair → Type 0
+ArePairs [] [] = Unit {0}
+ArePairs [] (pair ∷ pairs) = ⊥
+ArePairs (word ∷ words) [] = ⊥
+ArePairs (word ∷ words) (pair ∷ pairs) = IsPair word pair × ArePairs words pairs
+
+-- a line by its form
+pub data Statement : Type 0 where
+  Field_line : ℕ → Statement
+  Polygon_line : List Pair → Statement
+  Glue_line : Corner → Corner → Statement
+  Command_line : Command → Statement
+  End_line : Statement
+
+-- the command words that are built
+abbrev pub Built : List (List ℕ)
+Built = codes "check" ∷ []
+
+-- the words of each command
+abbrev pub SpellsCommand : List (List ℕ) → Command → Type 0
+SpellsCommand words Check = words ≡ codes "check" ∷ []
+
+-- the words have the form of this statement
+abbrev pub Shows : List (List ℕ) → Statement → Type 0
+Shows words (Field_line d) = (digits : List ℕ) × (words ≡ codes "field" ∷ digits ∷ []) × SpellsNumeral 4 digits d
+Shows words (Polygon_line pairs) = (rest : List (List ℕ)) × (words ≡ codes "polygon" ∷ rest) × ArePairs rest pairs
+Shows words (Glue_line one two) =
+    (one_text : List ℕ) × (two_text : List ℕ) × (words ≡ codes "glue" ∷ one_text ∷ two_text ∷ []) × SpellsCorner one_text one × SpellsCorner two_text two
+Shows words (Command_line command) = (word : List ℕ) × (rest : List (List ℕ)) × (words ≡ word ∷ rest) × Contains Built word × SpellsCommand words command
+Shows words End_line = words ≡ codes "end" ∷ []
+
+-- the texts of the numbers on it, from left to right
+abbrev pub numbers : Statement → List (List ℕ)
+numbers (Field_line d) = []
+numbers (Polygon_line pairs) = flat_map (λ pair. pair.x ∷ pair.y ∷ []) pairs
+numbers (Glue_line one two) = []
+numbers (Command_line command) = []
+numbers End_line = []

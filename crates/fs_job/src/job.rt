@@ -1,0 +1,33 @@
+use fs_gluing::{Fault, Sequence, Shape};
+use fs_quadratic::Field;
+
+/// What a job asks of its surface.
+#[derive(Clone, Copy, Debug, PartialEq, Eq, Hash)]
+pub enum Command {
+    /// Count the polygons and the sides.
+    Check,
+}
+
+/// How a job describes its surface.
+#[derive(Drop)]
+pub enum Form {
+    /// By polygons and their glued sides, in true size.
+    Polygons(Shape),
+}
+
+/// A job: the field of its numbers, its surface, and the commands in order.
+#[derive(Drop)]
+pub struct Job {
+    pub field: Field,
+    pub form: Form,
+    pub commands: Sequence<Command>,
+}
+
+/// Why no job is read.
+#[derive(Clone, Copy, Debug, PartialEq, Eq, Hash)]
+pub enum JobStop {
+    /// The bytes are no job.
+    Fault(Fault),
+    /// Memory ran out.
+    NoMemory,
+}

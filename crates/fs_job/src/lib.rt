@@ -1,0 +1,12 @@
+// The text of a job: which bytes are which job, and the first fault of all others.
+#![tactic(auto)]
+
+mod job;
+mod laws;
+mod reading;
+mod sites;
+
+pub use job::{Command, Form, Job, JobStop};
+pub use laws::job_or_fault;
+pub use reading::read_job;
+pub use sites::print_site;
