@@ -1,18 +1,18 @@
 -- The polygons of a shape in turn.
-use Rattle.std.proofs.Common.{◌≡◌, ◌≤◌, ◌<◌, ◌+◌, ℕ, List, [], ◌∷◌, ◌++◌, length, drop, take, map, sum_by, sym, ap, ◌∙◌, refl, subst, arith, append_assoc, zero, suc, get_or}
+use Rattle.std.proofs.Common.{◌≡◌, ◌≤◌, ◌<◌, ◌+◌, ℕ, List, [], ◌∷◌, ◌++◌, length, drop, map, sum_by, sym, ap, ◌∙◌, refl, subst, arith, append_assoc, zero, suc, get_or}
 use Rattle.std.proofs.lemmas.Grind.{common_steps}
-use Rattle.std.proofs.lemmas.List.{take_more, drop_more, length-map, append-nil, map-append}
+use Rattle.std.proofs.lemmas.List.{drop_more, length-map, append-nil}
 use Rattle.std.proofs.lemmas.List.Sums.{sum_by-cons}
 use Rattle.std.specs.List.{AllByRecursion}
 use Rattle.fs_quadratic.proofs.Firsts.{All-map}
 use Rattle.fs_plane.specs.declared.vector.V2.{V2}
 use Rattle.fs_plane.specs.Vector.{vector_zero}
-use Rattle.fs_gluing.specs.declared.shapes.Point.{Point}
 use Rattle.fs_gluing.specs.declared.shapes.Glue.{Glue}
 use Rattle.fs_gluing.specs.declared.shapes.Shape.{Shape}
 use Rattle.fs_gluing.specs.declared.faults.BuildStop.{BuildStop}
 use Rattle.fs_gluing.specs.Places.{places_from, all_places}
-use Rattle.fs_gluing.specs.Shape.{vectors, polygons_of, IsWithinLimits}
+use Rattle.fs_gluing.specs.Scaling.{common_den, scaled_vector}
+use Rattle.fs_gluing.specs.Shape.{polygons_of, IsWithinLimits}
 use Rattle.fs_gluing.specs.FirstFault.{PassesIn, polygon_tests, Polygon, Passes, answer, tests_from}
 use Rattle.fs_gluing.specs.Checks.{PassesBefore, AnswersFirst}
 use Rattle.fs_gluing.proofs.Checks.{passes_before_none, passes_before_more, passes_before_same, all_from_passes_before, answers_first_of_rest, answers_first_of_front, answers_first_of_map}
@@ -63,13 +63,6 @@ passed_all d polygons n places e p = (
   sym (append-nil places) ∙ ap (λ (ps : List (List V2)). places ++ all_places ps) (sym (drop_whole polygons n e)) ∙ p.places_are,
 )
 
-pub vectors_more : (points : List Point) (i : ℕ) (point : Point) (polygon polygon' : List V2) → IsItem points i point → polygon ≡ vectors (take i points)
-    → polygon' ≡ polygon ++ (record { x = point.x; y = point.y }) ∷ [] → polygon' ≡ vectors (take (i + 1) points)
-vectors_more points i point polygon polygon' item e more =
-    let to_vector : Point → V2 = λ p. record { x = p.x; y = p.y } in
-    more ∙ ap (λ vs. vs ++ to_vector point ∷ []) e ∙ ap (λ p. vectors (take i points) ++ to_vector p ∷ []) item.is
-    ∙ sym (ap vectors (take_more points i point item.inside) ∙ map-append to_vector (take i points) (get_or points i point ∷ []))
-
 -- what holds of each polygon holds of the one at a place
 pub all_at : {X : Type 0} (P : X → Type 0) (xs : List X) (i : ℕ) (x : X) → AllByRecursion P xs → IsItem xs i x → P x
 all_at P xs i x a item = subst P (sym item.is) (at P xs i x a item.inside)
@@ -81,28 +74,29 @@ all_at P xs i x a item = subst P (sym item.is) (at P xs i x a item.inside)
 
 -- ---- a shape within the limits
 
-sum_of_vectors : (polygons : List (List Point)) → sum_by length (map vectors polygons) ≡ sum_by length polygons
-sum_of_vectors [] = refl
-sum_of_vectors (polygon ∷ polygons) =
-    sum_by-cons length (vectors polygon) (map vectors polygons)
-    ∙ ap (λ n. n + sum_by length (map vectors polygons)) (length-map polygon (λ (p : Point). record { x = p.x; y = p.y }))
-    ∙ ap (λ n. length polygon + n) (sum_of_vectors polygons)
-    ∙ sym (sum_by-cons length polygon polygons)
+sum_of_mapped : {X Y : Type 0} (f : X → Y) (rows : List (List X)) → sum_by length (map (map f) rows) ≡ sum_by length rows
+sum_of_mapped f [] = refl
+sum_of_mapped f (row ∷ rows) =
+    sum_by-cons length (map f row) (map (map f) rows)
+    ∙ ap (λ n. n + sum_by length (map (map f) rows)) (length-map row f)
+    ∙ ap (λ n. length row + n) (sum_of_mapped f rows)
+    ∙ sym (sum_by-cons length row rows)
 
-each_short : (polygons : List (List V2)) (most : ℕ) → sum_by length polygons ≤ most → AllByRecursion (λ polygon. length polygon ≤ most) polygons
+each_short : {X : Type 0} (rows : List (List X)) (most : ℕ) → sum_by length rows ≤ most → AllByRecursion (λ row. length row ≤ most) rows
 each_short [] most few = tt
-each_short (polygon ∷ polygons) most few =
-    let sum = sum_by-cons length polygon polygons in
-    (omega arith, each_short polygons most (omega arith))
+each_short (row ∷ rows) most few =
+    let sum = sum_by-cons length row rows in
+    (omega arith, each_short rows most (omega arith))
 
 pub shape_count : (shape : Shape) → length (polygons_of shape) ≡ length shape.polygons
-shape_count shape = length-map shape.polygons vectors
+shape_count shape = length-map shape.polygons (map (scaled_vector (common_den shape.polygons)))
 
 pub shape_sides : (shape : Shape) → sum_by length (polygons_of shape) ≡ sum_by length shape.polygons
-shape_sides shape = sum_of_vectors shape.polygons
-
-pub few_polygons : (shape : Shape) → IsWithinLimits shape → length (polygons_of shape) ≤ 256
-few_polygons shape h = subst (λ n. n ≤ 256) (sym (shape_count shape)) h.polygons
+shape_sides shape = sum_of_mapped (scaled_vector (common_den shape.polygons)) shape.polygons
 
 pub short_polygons : (shape : Shape) → IsWithinLimits shape → AllByRecursion (λ polygon. length polygon ≤ 1024) (polygons_of shape)
 short_polygons shape h = each_short (polygons_of shape) 1024 (subst (λ n. n ≤ 1024) (sym (shape_sides shape)) h.sides)
+
+-- before it is scaled
+pub short_rows : (shape : Shape) → IsWithinLimits shape → AllByRecursion (λ polygon. length polygon ≤ 1024) shape.polygons
+short_rows shape h = each_short shape.polygons 1024 h.sides

@@ -1,5 +1,5 @@
 -- The glued polygons: what stands at their sides, and that they are a surface.
-use Rattle.std.proofs.Common.{◌≡◌, ◌≢◌, inl, inr, ℕ, ◌+◌, ◌<◌, ◌≤◌, pos, Option, Some, None, List, [], ◌∷◌, ◌++◌, length, sum_by, sym, ap, ◌∙◌, refl, subst, map, unwrap_or, arith, suc, zero}
+use Rattle.std.proofs.Common.{◌≡◌, ◌≢◌, inl, inr, ℕ, ◌+◌, ◌<◌, ◌≤◌, ℤ, pos, ◌<ℤ◌, Option, Some, None, List, [], ◌∷◌, ◌++◌, length, sum_by, sym, ap, ◌∙◌, refl, subst, map, unwrap_or, arith, suc, zero}
 use Rattle.std.proofs.lemmas.List.Sums.{sum_by-cons}
 use Rattle.std.specs.Option.{IsSome, option_map, option_and_then}
 use Rattle.std.specs.List.{AllByRecursion, slice_get}
@@ -269,11 +269,11 @@ module _ (d : ℕ) (polygons : List (List V2)) (glues : List Glue) (p : Corner �
   pub lines_are_glued : AllByRecursion (λ g. AreGlued rows g.one g.two) glues
   lines_are_glued = lines_glued_of glues lines_present h.partners.of_lines
 
-  pub is_surface : IsRadicand d → 0 < length polygons → length polygons ≤ 256 → sum_by length polygons ≤ 1024
-      → ((k : ℕ) → k < length rows → IsReached (AreNeighbours rows) k) → IsSurface (record { d = d; den = pos 1; polygons = rows })
-  is_surface radicand some few sides together = record {
+  pub is_surface : (den : ℤ) → IsRadicand d → pos 0 <ℤ den → 0 < length polygons → length polygons ≤ 256 → sum_by length polygons ≤ 1024
+      → ((k : ℕ) → k < length rows → IsReached (AreNeighbours rows) k) → IsSurface (record { d = d; den = den; polygons = rows })
+  is_surface den radicand positive some few sides together = record {
     radicand = radicand;
-    den = omega arith;
+    den = positive;
     some_polygon = subst (λ n. 0 < n) (sym (rows_length p 0 polygons)) some;
     polygons = subst (λ n. n ≤ 256) (sym (rows_length p 0 polygons)) few;
     sides = subst (λ n. n ≤ 1024) (sym (rows_sum p 0 polygons)) sides;

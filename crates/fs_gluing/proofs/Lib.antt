@@ -1,6 +1,7 @@
 pub mod Checks
 pub mod Vectors
 pub mod Items
+pub mod EachSide
 pub mod Walks
 pub mod Bends
 pub mod PolygonTests
@@ -12,4 +13,5 @@ pub mod Places
 pub mod Corners
 pub mod Search
 pub mod Glued
+pub mod InSize
 pub mod Judged

@@ -1,9 +1,11 @@
 -- Shapes: what a surface is built from.
-use Rattle.std.specs.Prelude.{◌≡◌, ℕ, pos, ◌<◌, ◌≤◌, List, ◌∷◌, [], Some, length, map, sum_by}
+use Rattle.std.specs.Prelude.{◌≡◌, ℕ, pos, ◌<◌, ◌≤◌, List, ◌∷◌, [], Some, length, map, sum_by, unsigned_abs}
 use Rattle.std.specs.List.{AllByRecursion, flat_map}
+use Rattle.fs_fraction.specs.Fraction.{HasValue}
 use Rattle.fs_plane.specs.declared.corners.Corner.{Corner}
 use Rattle.fs_plane.specs.declared.vector.V2.{V2}
 use Rattle.fs_gluing.specs.declared.shapes.Glue.{Glue}
+use Rattle.fs_gluing.specs.declared.shapes.Point.{Point}
 use Rattle.fs_gluing.specs.declared.shapes.Shape.{Shape}
 use Rattle.fs_gluing.specs.declared.surfaces.Side.{Side}
 use Rattle.fs_gluing.specs.Polygons.{at_side}
@@ -29,9 +31,15 @@ pub record AreGlued (polygons : List (List Side)) (one two : Corner) : Type 0 wh
   pub forth : (side : Side) × (at_side polygons one ≡ Some side) × (side.partner ≡ two)
   pub back : (side : Side) × (at_side polygons two ≡ Some side) × (side.partner ≡ one)
 
+-- the vector over den is the one in true size
+abbrev pub IsInSize : ℕ → Point → V2 → Type 0
+IsInSize den point vector = HasValue point.x vector.x den × HasValue point.y vector.y den
+
 -- the surface has the shape's polygons, times the least common denominator, and is glued as its lines say
 pub record HasShape (d : ℕ) (shape : Shape) (s : GluedPolygons) : Type 0 where
   pub field : s.d ≡ d
   pub denominator : s.den ≡ pos (common_den shape.polygons)
   pub same_vectors : map side_vectors s.polygons ≡ polygons_of shape
+  pub in_size : (c : Corner) (point : Point) (side : Side) → at_side shape.polygons c ≡ Some point → at_side s.polygons c ≡ Some side
+      → IsInSize (unsigned_abs s.den) point side.vector
   pub as_the_lines : AllByRecursion (λ g. AreGlued s.polygons g.one g.two) shape.glues

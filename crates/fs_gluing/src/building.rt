@@ -6,7 +6,7 @@ ghost use Rattle.fs_gluing.specs.declared.faults.BuildStop.{BuildStop};
 ghost use Rattle.fs_gluing.specs.declared.shapes.Glue.{Glue};
 ghost use Rattle.fs_gluing.specs.Polygons.{all_sides};
 ghost use Rattle.fs_gluing.specs.Places.{all_places};
-ghost use Rattle.fs_gluing.specs.Shape.{IsWithinLimits, polygons_of, vectors};
+ghost use Rattle.fs_gluing.specs.Shape.{IsWithinLimits};
 ghost use Rattle.fs_gluing.specs.FirstFault.{Test, IsFirstFailure, answer, Judges, Passes, tests_from};
 ghost use Rattle.fs_gluing.specs.FirstFault.Test.{Glued};
 ghost use Rattle.fs_gluing.specs.Checks.{AnswersFirst};
@@ -16,17 +16,23 @@ use crate::faults::{BuildStop, Fault};
 use crate::glue_lines::pair_sides;
 use crate::polygons::check_polygon;
 use crate::reaching::check_reached;
+use crate::scaling::scale;
 use crate::sequence::Sequence;
-use crate::shapes::{Point, Shape};
+use crate::shapes::Shape;
 use crate::surfaces::{Side, Surface};
 use fs_plane::{Corner, V2};
 use fs_quadratic::Field;
-use std::alloc::{AllocError, Global};
+use std::alloc::Global;
 use std::collections::BTreeMap;
 
 /// The surface of a shape of 1 to 256 polygons and at most 1,024 sides.
 ///
-/// Tried in this order, the first failure being the answer. Of each polygon in turn: that it has
+/// The vectors of the shape are in true size. Those of the surface, and the places of its corners,
+/// are the true ones times its denominator, which is the least common one of all coordinates.
+///
+/// Tried in this order, the first failure being the answer. Of all sides: that the common
+/// denominator up to each of them is within the width, and then that each part of their vectors
+/// is, times the denominator (`Overflow` at the site `Scale`). Of each polygon in turn: that it has
 /// three sides (`FewSides`), that the places of its corners, side by side, are within the width
 /// (`Overflow` at the site `Close`), that it closes (`NotClosed`); of each of its corners in turn
 /// that the cross product of the two sides is within the width (`Overflow` at the site `Corner`)
@@ -41,36 +47,12 @@ pub fn build(alloc: Global, field: Field, shape: &Shape) -> Result<Surface, Buil
     ensures first { (test : Test) → IsFirstFailure field.d shape.now test
         → (result ≡ Err BuildStop.NoMemory) ⊎ (result ≡ Err (answer test)) }
 {
-    let polygons = take_vectors(alloc, shape)?;
-    let places = check_polygons(alloc, field, &polygons)?;
-    let partners = pair_sides(alloc, &polygons, shape.glues.as_slice())?;
-    let glued = glue_polygons(alloc, &polygons, &partners)?;
+    let scaled = scale(alloc, shape)?;
+    let places = check_polygons(alloc, field, &scaled.polygons)?;
+    let partners = pair_sides(alloc, &scaled.polygons, shape.glues.as_slice())?;
+    let glued = glue_polygons(alloc, &scaled.polygons, &partners)?;
     check_reached(alloc, &glued)?;
-    Ok(Surface::new(field, 1, glued, places))
-}
-
-// The side vectors of the polygons.
-fn take_vectors(alloc: Global, shape: &Shape) -> Result<Sequence<Sequence<V2>>, AllocError>
-    ensures { IfOk result (λ polygons. polygons ≡ polygons_of shape.now) }
-{
-    let mut polygons = Sequence::new(alloc);
-    for polygon in shape.polygons.as_slice() {
-        polygons.push(polygon_vectors(alloc, polygon.as_slice())?)?;
-    }
-    Ok(polygons)
-}
-
-fn polygon_vectors(alloc: Global, points: &[Point]) -> Result<Sequence<V2>, AllocError>
-    ensures { IfOk result (λ polygon. polygon ≡ vectors points.now) }
-{
-    let mut polygon = Sequence::new(alloc);
-    for point in points {
-        polygon.push(V2 {
-            x: point.x,
-            y: point.y,
-        })?;
-    }
-    Ok(polygon)
+    Ok(Surface::new(field, scaled.den, glued, places))
 }
 
 // The places of all corners, where each polygon passes its tests.

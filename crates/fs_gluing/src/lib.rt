@@ -6,6 +6,7 @@ mod faults;
 mod glue_lines;
 mod polygons;
 mod reaching;
+mod scaling;
 mod sequence;
 mod shapes;
 mod surfaces;

@@ -1,4 +1,4 @@
-use Rattle.std.proofs.Common.{◌≡◌, ◌⊎◌, List, [], pos, ap, ◌∙◌, subst}
+use Rattle.std.proofs.Common.{◌≡◌, ◌⊎◌, List, [], ap, ◌∙◌, subst}
 use Rattle.std.specs.BTreeMap.{get}
 use Rattle.std.specs.List.{AllByRecursion}
 use Rattle.fs_gluing.specs.declared.shapes.Glue.{Glue}
@@ -9,81 +9,100 @@ use Rattle.fs_gluing.specs.Gluing.{corner_cmp, ArePartners}
 use Rattle.fs_gluing.proofs.Checks.{at_exit}
 use Rattle.fs_gluing.proofs.Glued.{paired_by}
 use Rattle.fs_gluing.proofs.Lines.{answer_line}
-use Rattle.fs_gluing.proofs.Judged.{short, some_rows, few_rows, glued_sides_of, near_rows, apart_rows, surface_is, places_are, built, judged_at_polygons, judged_at_lines, judged_at_sides, first_from_judged}
+use Rattle.fs_gluing.proofs.Judged.{is_scaled, passed_on, judged_at_scale, short, some_rows, few_rows, glued_sides_of, near_rows, apart_rows, surface_is, places_are, built, judged_at_polygons, judged_at_lines, judged_at_sides, first_from_judged}
 use Rattle.fs_gluing.proofs.building.build.Goals as goal
 
+pub returns-in_err-scaled : goal.returns-in_err-scaled
+returns-in_err-scaled c =
+    let judged = at_exit (Judges c.args.field.d c.args.shape.now) c.from_residual.result c.in_err-scaled.field-0.0 c.from_residual.ensures.1
+    (judged_at_scale c.args.field.d c.args.shape.now _ c.in_err-scaled.ensures.failed) in
+    record { judged = judged; first = first_from_judged c.args.field.d c.args.shape.now _ judged }
+
 pub check_polygons-requires-clause-short : goal.check_polygons-requires-clause-short
-check_polygons-requires-clause-short c = short c.args.field.d c.args.shape.now c.in_ok-polygons.polygons c.in_ok-polygons.ensures c.requires
+check_polygons-requires-clause-short c =
+    let scaled = is_scaled c.args.shape.now c.in_ok-scaled.scaled.den c.in_ok-scaled.scaled.polygons c.in_ok-scaled.ensures.passed c.in_ok-scaled.ensures.den c.in_ok-scaled.ensures.polygons c.in_ok-scaled.ensures.positive c.in_ok-scaled.ensures.within in
+    short c.args.field.d c.args.shape.now c.in_ok-scaled.scaled.den c.in_ok-scaled.scaled.polygons scaled c.requires
 
 pub glue_polygons-requires-clause-short : goal.glue_polygons-requires-clause-short
-glue_polygons-requires-clause-short c = short c.args.field.d c.args.shape.now c.in_ok-polygons.polygons c.in_ok-polygons.ensures c.requires
+glue_polygons-requires-clause-short c =
+    let scaled = is_scaled c.args.shape.now c.in_ok-scaled.scaled.den c.in_ok-scaled.scaled.polygons c.in_ok-scaled.ensures.passed c.in_ok-scaled.ensures.den c.in_ok-scaled.ensures.polygons c.in_ok-scaled.ensures.positive c.in_ok-scaled.ensures.within in
+    short c.args.field.d c.args.shape.now c.in_ok-scaled.scaled.den c.in_ok-scaled.scaled.polygons scaled c.requires
 
 pub returns-in_err-places : goal.returns-in_err-places
 returns-in_err-places c =
+    let scaled = is_scaled c.args.shape.now c.in_ok-scaled.scaled.den c.in_ok-scaled.scaled.polygons c.in_ok-scaled.ensures.passed c.in_ok-scaled.ensures.den c.in_ok-scaled.ensures.polygons c.in_ok-scaled.ensures.positive c.in_ok-scaled.ensures.within in
     let judged = at_exit (Judges c.args.field.d c.args.shape.now) c.from_residual-in_err-places.result c.in_err-places.field-0.0 c.from_residual-in_err-places.ensures.1
-    (judged_at_polygons c.args.field.d c.args.shape.now c.in_ok-polygons.polygons c.in_ok-polygons.ensures _ c.in_err-places.ensures.failed) in
+    (judged_at_polygons c.args.field.d c.args.shape.now c.in_ok-scaled.scaled.den c.in_ok-scaled.scaled.polygons scaled _ c.in_err-places.ensures.failed) in
     record { judged = judged; first = first_from_judged c.args.field.d c.args.shape.now _ judged }
 
 pub returns-in_err-partners : goal.returns-in_err-partners
 returns-in_err-partners c =
-    let polygons = c.in_ok-polygons.polygons in
+    let scaled = is_scaled c.args.shape.now c.in_ok-scaled.scaled.den c.in_ok-scaled.scaled.polygons c.in_ok-scaled.ensures.passed c.in_ok-scaled.ensures.den c.in_ok-scaled.ensures.polygons c.in_ok-scaled.ensures.positive c.in_ok-scaled.ensures.within in
+    let polygons = c.in_ok-scaled.scaled.polygons in
     let e = c.in_err-partners.field-0.0 in
     let failed = subst (λ (gs : List Glue). (e ≡ NoMemory) ⊎ AnswersFirst (PassesLine polygons) (line_tests [] gs) answer_line e) c.as_slice.ensures c.in_err-partners.ensures.failed in
     let judged = at_exit (Judges c.args.field.d c.args.shape.now) c.from_residual-in_err-partners.result e c.from_residual-in_err-partners.ensures.1
-    (judged_at_lines c.args.field.d c.args.shape.now polygons c.in_ok-polygons.ensures e (c.in_ok-places.ensures.passed c.args.shape.now.glues) failed) in
+    (judged_at_lines c.args.field.d c.args.shape.now c.in_ok-scaled.scaled.den polygons scaled e (c.in_ok-places.ensures.passed c.args.shape.now.glues) failed) in
     record { judged = judged; first = first_from_judged c.args.field.d c.args.shape.now _ judged }
 
 pub returns-in_err-glued : goal.returns-in_err-glued
 returns-in_err-glued c =
-    let polygons = c.in_ok-polygons.polygons in
+    let scaled = is_scaled c.args.shape.now c.in_ok-scaled.scaled.den c.in_ok-scaled.scaled.polygons c.in_ok-scaled.ensures.passed c.in_ok-scaled.ensures.den c.in_ok-scaled.ensures.polygons c.in_ok-scaled.ensures.positive c.in_ok-scaled.ensures.within in
+    let polygons = c.in_ok-scaled.scaled.polygons in
     let p = get corner_cmp c.in_ok-partners.partners in
     let lines = subst (λ (gs : List Glue). AllByRecursion (PassesLine polygons) (line_tests [] gs)) c.as_slice.ensures c.in_ok-partners.ensures.passed in
     let partners = subst (λ (gs : List Glue). ArePartners gs p) c.as_slice.ensures c.in_ok-partners.ensures.paired in
     let judged = at_exit (Judges c.args.field.d c.args.shape.now) c.from_residual-in_err-glued.result c.in_err-glued.field-0.0 c.from_residual-in_err-glued.ensures.1
-    (judged_at_sides c.args.field.d c.args.shape.now polygons c.in_ok-polygons.ensures p _ (c.in_ok-places.ensures.passed c.args.shape.now.glues) lines partners c.in_err-glued.ensures.failed) in
+    (judged_at_sides c.args.field.d c.args.shape.now c.in_ok-scaled.scaled.den polygons scaled p _ (c.in_ok-places.ensures.passed c.args.shape.now.glues) lines partners c.in_err-glued.ensures.failed) in
     record { judged = judged; first = first_from_judged c.args.field.d c.args.shape.now _ judged }
 
 pub check_reached-requires-clause-some : goal.check_reached-requires-clause-some
 check_reached-requires-clause-some c =
+    let scaled = is_scaled c.args.shape.now c.in_ok-scaled.scaled.den c.in_ok-scaled.scaled.polygons c.in_ok-scaled.ensures.passed c.in_ok-scaled.ensures.den c.in_ok-scaled.ensures.polygons c.in_ok-scaled.ensures.positive c.in_ok-scaled.ensures.within in
     let p = get corner_cmp c.in_ok-partners.partners in
-    let paired = paired_by c.args.field.d c.in_ok-polygons.polygons _ _ p c.as_slice.ensures c.in_ok-places.ensures.passed c.in_ok-partners.ensures.passed c.in_ok-partners.ensures.paired c.in_ok-glued.ensures.passed in
-    some_rows c.args.field.d c.args.shape.now c.in_ok-polygons.polygons c.in_ok-polygons.ensures p paired c.in_ok-glued.glued c.in_ok-glued.ensures.glued c.requires
+    let paired = paired_by c.args.field.d c.in_ok-scaled.scaled.polygons _ _ p c.as_slice.ensures c.in_ok-places.ensures.passed c.in_ok-partners.ensures.passed c.in_ok-partners.ensures.paired c.in_ok-glued.ensures.passed in
+    some_rows c.args.field.d c.args.shape.now c.in_ok-scaled.scaled.den c.in_ok-scaled.scaled.polygons scaled p paired c.in_ok-glued.glued c.in_ok-glued.ensures.glued c.requires
 
 pub check_reached-requires-clause-few : goal.check_reached-requires-clause-few
 check_reached-requires-clause-few c =
+    let scaled = is_scaled c.args.shape.now c.in_ok-scaled.scaled.den c.in_ok-scaled.scaled.polygons c.in_ok-scaled.ensures.passed c.in_ok-scaled.ensures.den c.in_ok-scaled.ensures.polygons c.in_ok-scaled.ensures.positive c.in_ok-scaled.ensures.within in
     let p = get corner_cmp c.in_ok-partners.partners in
-    let paired = paired_by c.args.field.d c.in_ok-polygons.polygons _ _ p c.as_slice.ensures c.in_ok-places.ensures.passed c.in_ok-partners.ensures.passed c.in_ok-partners.ensures.paired c.in_ok-glued.ensures.passed in
-    few_rows c.args.field.d c.args.shape.now c.in_ok-polygons.polygons c.in_ok-polygons.ensures p paired c.in_ok-glued.glued c.in_ok-glued.ensures.glued c.requires
+    let paired = paired_by c.args.field.d c.in_ok-scaled.scaled.polygons _ _ p c.as_slice.ensures c.in_ok-places.ensures.passed c.in_ok-partners.ensures.passed c.in_ok-partners.ensures.paired c.in_ok-glued.ensures.passed in
+    few_rows c.args.field.d c.args.shape.now c.in_ok-scaled.scaled.den c.in_ok-scaled.scaled.polygons scaled p paired c.in_ok-glued.glued c.in_ok-glued.ensures.glued c.requires
 
 pub check_reached-requires-clause-glued : goal.check_reached-requires-clause-glued
 check_reached-requires-clause-glued c =
+    let scaled = is_scaled c.args.shape.now c.in_ok-scaled.scaled.den c.in_ok-scaled.scaled.polygons c.in_ok-scaled.ensures.passed c.in_ok-scaled.ensures.den c.in_ok-scaled.ensures.polygons c.in_ok-scaled.ensures.positive c.in_ok-scaled.ensures.within in
     let p = get corner_cmp c.in_ok-partners.partners in
-    let paired = paired_by c.args.field.d c.in_ok-polygons.polygons _ _ p c.as_slice.ensures c.in_ok-places.ensures.passed c.in_ok-partners.ensures.passed c.in_ok-partners.ensures.paired c.in_ok-glued.ensures.passed in
-    glued_sides_of c.args.field.d c.args.shape.now c.in_ok-polygons.polygons c.in_ok-polygons.ensures p paired c.in_ok-glued.glued c.in_ok-glued.ensures.glued
+    let paired = paired_by c.args.field.d c.in_ok-scaled.scaled.polygons _ _ p c.as_slice.ensures c.in_ok-places.ensures.passed c.in_ok-partners.ensures.passed c.in_ok-partners.ensures.paired c.in_ok-glued.ensures.passed in
+    glued_sides_of c.args.field.d c.args.shape.now c.in_ok-scaled.scaled.den c.in_ok-scaled.scaled.polygons scaled p paired c.in_ok-glued.glued c.in_ok-glued.ensures.glued
 
 pub returns-in_err-check_reached : goal.returns-in_err-check_reached
 returns-in_err-check_reached c =
+    let scaled = is_scaled c.args.shape.now c.in_ok-scaled.scaled.den c.in_ok-scaled.scaled.polygons c.in_ok-scaled.ensures.passed c.in_ok-scaled.ensures.den c.in_ok-scaled.ensures.polygons c.in_ok-scaled.ensures.positive c.in_ok-scaled.ensures.within in
     let p = get corner_cmp c.in_ok-partners.partners in
-    let paired = paired_by c.args.field.d c.in_ok-polygons.polygons _ _ p c.as_slice.ensures c.in_ok-places.ensures.passed c.in_ok-partners.ensures.passed c.in_ok-partners.ensures.paired c.in_ok-glued.ensures.passed in
+    let paired = paired_by c.args.field.d c.in_ok-scaled.scaled.polygons _ _ p c.as_slice.ensures c.in_ok-places.ensures.passed c.in_ok-partners.ensures.passed c.in_ok-partners.ensures.paired c.in_ok-glued.ensures.passed in
     let judged = at_exit (Judges c.args.field.d c.args.shape.now) c.from_residual-in_err-check_reached.result c.in_err-check_reached.field-0.0 c.from_residual-in_err-check_reached.ensures.1
-    (apart_rows c.args.field.d c.args.shape.now c.in_ok-polygons.polygons c.in_ok-polygons.ensures p paired c.in_ok-glued.glued c.in_ok-glued.ensures.glued _ c.in_err-check_reached.ensures.failed) in
+    (apart_rows c.args.field.d c.args.shape.now c.in_ok-scaled.scaled.den c.in_ok-scaled.scaled.polygons scaled p paired c.in_ok-glued.glued c.in_ok-glued.ensures.glued _ c.in_err-check_reached.ensures.failed) in
     record { judged = judged; first = first_from_judged c.args.field.d c.args.shape.now _ judged }
 
 pub new-requires : goal.new-requires
 new-requires c =
+    let scaled = is_scaled c.args.shape.now c.in_ok-scaled.scaled.den c.in_ok-scaled.scaled.polygons c.in_ok-scaled.ensures.passed c.in_ok-scaled.ensures.den c.in_ok-scaled.ensures.polygons c.in_ok-scaled.ensures.positive c.in_ok-scaled.ensures.within in
     let p = get corner_cmp c.in_ok-partners.partners in
-    let paired = paired_by c.args.field.d c.in_ok-polygons.polygons _ _ p c.as_slice.ensures c.in_ok-places.ensures.passed c.in_ok-partners.ensures.passed c.in_ok-partners.ensures.paired c.in_ok-glued.ensures.passed in
-    let near = near_rows c.args.field.d c.args.shape.now c.in_ok-polygons.polygons c.in_ok-polygons.ensures p paired c.in_ok-glued.glued c.in_ok-glued.ensures.glued c.in_ok-check_reached.ensures.passed in
+    let paired = paired_by c.args.field.d c.in_ok-scaled.scaled.polygons _ _ p c.as_slice.ensures c.in_ok-places.ensures.passed c.in_ok-partners.ensures.passed c.in_ok-partners.ensures.paired c.in_ok-glued.ensures.passed in
+    let near = near_rows c.args.field.d c.args.shape.now c.in_ok-scaled.scaled.den c.in_ok-scaled.scaled.polygons scaled p paired c.in_ok-glued.glued c.in_ok-glued.ensures.glued c.in_ok-check_reached.ensures.passed in
     record {
-      surface = surface_is c.args.field.d c.args.shape.now c.in_ok-polygons.polygons c.in_ok-polygons.ensures p paired c.in_ok-glued.glued c.args.field.radicand c.requires near c.in_ok-glued.ensures.glued;
-      places = places_are c.args.field.d c.args.shape.now c.in_ok-polygons.polygons c.in_ok-polygons.ensures p paired c.in_ok-glued.glued c.in_ok-places.places c.in_ok-places.ensures.places c.in_ok-glued.ensures.glued;
+      surface = surface_is c.args.field.d c.args.shape.now c.in_ok-scaled.scaled.den c.in_ok-scaled.scaled.polygons scaled p paired c.in_ok-glued.glued c.args.field.radicand c.requires near c.in_ok-glued.ensures.glued;
+      places = places_are c.args.field.d c.args.shape.now c.in_ok-scaled.scaled.den c.in_ok-scaled.scaled.polygons scaled p paired c.in_ok-glued.glued c.in_ok-places.places c.in_ok-places.ensures.places c.in_ok-glued.ensures.glued;
     }
 
 pub returns : goal.returns
 returns c =
+    let scaled = is_scaled c.args.shape.now c.in_ok-scaled.scaled.den c.in_ok-scaled.scaled.polygons c.in_ok-scaled.ensures.passed c.in_ok-scaled.ensures.den c.in_ok-scaled.ensures.polygons c.in_ok-scaled.ensures.positive c.in_ok-scaled.ensures.within in
     let p = get corner_cmp c.in_ok-partners.partners in
-    let paired = paired_by c.args.field.d c.in_ok-polygons.polygons _ _ p c.as_slice.ensures c.in_ok-places.ensures.passed c.in_ok-partners.ensures.passed c.in_ok-partners.ensures.paired c.in_ok-glued.ensures.passed in
-    let near = near_rows c.args.field.d c.args.shape.now c.in_ok-polygons.polygons c.in_ok-polygons.ensures p paired c.in_ok-glued.glued c.in_ok-glued.ensures.glued c.in_ok-check_reached.ensures.passed in
-    let judged = built c.args.field.d c.args.shape.now c.in_ok-polygons.polygons c.in_ok-polygons.ensures p paired c.new.result c.args.field.radicand c.requires near
-    (c.new.ensures ∙ ap (λ rows. record { d = c.args.field.d; den = pos 1; polygons = rows }) c.in_ok-glued.ensures.glued) in
+    let paired = paired_by c.args.field.d c.in_ok-scaled.scaled.polygons _ _ p c.as_slice.ensures c.in_ok-places.ensures.passed c.in_ok-partners.ensures.passed c.in_ok-partners.ensures.paired c.in_ok-glued.ensures.passed in
+    let near = near_rows c.args.field.d c.args.shape.now c.in_ok-scaled.scaled.den c.in_ok-scaled.scaled.polygons scaled p paired c.in_ok-glued.glued c.in_ok-glued.ensures.glued c.in_ok-check_reached.ensures.passed in
+    let judged = built c.args.field.d c.args.shape.now c.in_ok-scaled.scaled.den c.in_ok-scaled.scaled.polygons scaled p paired c.new.result c.args.field.radicand c.requires near
+    (c.new.ensures ∙ ap (λ rows. record { d = c.args.field.d; den = passed_on c.in_ok-scaled.scaled.den; polygons = rows }) c.in_ok-glued.ensures.glued) in
     record { judged = judged; first = first_from_judged c.args.field.d c.args.shape.now _ judged }

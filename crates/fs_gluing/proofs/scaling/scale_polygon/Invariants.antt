@@ -1,0 +1,5 @@
+use Rattle.fs_gluing.proofs.EachSide.{RowScaled}
+use Rattle.fs_gluing.proofs.scaling.scale_polygon.Given as goal
+
+abbrev pub invariant-loop-j : goal.invariant-loop-j
+invariant-loop-j l = RowScaled l.den l.i l.points l.j l.row

@@ -1,0 +1,235 @@
+ghost use Rattle.std.specs.Prelude.{◌≡◌, ◌⊎◌, ◌≤◌, ◌<◌, ◌<ℤ◌, ◌+◌, ◌*ℤ◌, ◌/◌, ◌^◌, [], ◌∷◌, Some, length, map, pos, IfOk, IfSome, OnOk, IfErr};
+ghost use Rattle.std.specs.List.{AllByRecursion};
+ghost use Rattle.std.specs.Option.{SomeIff};
+ghost use Rattle.fs_quadratic.specs.Width.{InWidth};
+ghost use Rattle.fs_fraction.specs.Fraction.{scale};
+ghost use Rattle.fs_gluing.specs.declared.faults.BuildStop.{BuildStop};
+ghost use Rattle.fs_gluing.specs.Scaling.{common_den, common_from, common_multiple, common_tests, part_tests, placed, placed_row, scaled_vector, scale_tests, PassesScale};
+ghost use Rattle.fs_gluing.specs.Scaling.ScaleTest.{Part_fits};
+ghost use Rattle.fs_gluing.specs.Shape.{IsWithinLimits, polygons_of};
+ghost use Rattle.fs_gluing.specs.FirstFault.{answer};
+ghost use Rattle.fs_gluing.specs.FirstFault.Test.{Scale};
+ghost use Rattle.fs_gluing.specs.Checks.{AnswersFirst};
+
+use crate::faults::BuildStop;
+use crate::sequence::Sequence;
+use crate::shapes::{Point, Shape};
+use fs_fraction::{Frac, greatest_divisor};
+use fs_plane::{Corner, Site, V2};
+use fs_quadratic::Elem;
+use std::alloc::Global;
+
+// The greatest number of the width.
+const GREATEST: u128 = (1 << 127) - 1;
+
+// Polygons by their side vectors, which are the true ones times one denominator.
+#[derive(Drop)]
+pub struct Scaled {
+    pub den: i128,
+    pub polygons: Sequence<Sequence<V2>>,
+}
+
+// The polygons of a shape times the least common denominator of all coordinates.
+pub fn scale(alloc: Global, shape: &Shape) -> Result<Scaled, BuildStop>
+    requires { IsWithinLimits shape.now }
+    ensures passed { OnOk result (AllByRecursion PassesScale (scale_tests shape.now.polygons)) }
+    ensures den { IfOk result (λ s. s.den ≡ pos (common_den shape.now.polygons)) }
+    ensures polygons { IfOk result (λ s. s.polygons ≡ polygons_of shape.now) }
+    ensures positive { IfOk result (λ s. pos 0 <ℤ s.den) }
+    ensures within { IfOk result (λ s. InWidth s.den) }
+    ensures failed { IfErr result (λ e. (e ≡ BuildStop.NoMemory)
+        ⊎ AnswersFirst PassesScale (scale_tests shape.now.polygons) (λ test. answer (Scale test)) e) }
+{
+    let den = common_den(&shape.polygons)?;
+    let polygons = scale_polygons(alloc, den, &shape.polygons)?;
+    Ok(Scaled {
+        den: den as i128,
+        polygons,
+    })
+}
+
+// The least common denominator of all coordinates of the polygons.
+fn common_den(polygons: &Sequence<Sequence<Point>>) -> Result<u128, BuildStop>
+    requires few { length polygons.now ≤ 256 }
+    requires short { AllByRecursion (λ polygon. length polygon ≤ 1024) polygons.now }
+    ensures passed { OnOk result (AllByRecursion PassesScale (common_tests 1 (placed polygons.now))) }
+    ensures value { IfOk result (λ den. den ≡ common_den polygons.now) }
+    ensures positive { IfOk result (λ den. 0 < den) }
+    ensures within { IfOk result (λ den. den < 2 ^ 127) }
+    ensures failed { IfErr result (AnswersFirst PassesScale (common_tests 1 (placed polygons.now)) (λ test. answer (Scale test))) }
+{
+    let mut den = 1;
+    for (i, polygon) in polygons.as_slice().iter().enumerate() {
+        den = common_of_polygon(den, i as u16, polygon.as_slice())?;
+    }
+    Ok(den)
+}
+
+// The least common multiple of m and the denominators of the polygon with the number i.
+fn common_of_polygon(m: u128, i: u16, points: &[Point]) -> Result<u128, BuildStop>
+    requires short { length points.now ≤ 1024 }
+    requires positive { 0 < m }
+    requires within { m < 2 ^ 127 }
+    ensures passed { OnOk result (AllByRecursion PassesScale (common_tests m (placed_row i 0 points.now))) }
+    ensures value { IfOk result (λ den. den ≡ common_from m (placed_row i 0 points.now)) }
+    ensures positive { IfOk result (λ den. 0 < den) }
+    ensures within { IfOk result (λ den. den < 2 ^ 127) }
+    ensures failed { IfErr result (AnswersFirst PassesScale (common_tests m (placed_row i 0 points.now)) (λ test. answer (Scale test))) }
+{
+    let mut den = m;
+    for (j, point) in points.iter().enumerate() {
+        den = common_of_side(
+            den,
+            Corner {
+                polygon: i,
+                side: j as u16,
+            },
+            *point,
+        )?;
+    }
+    Ok(den)
+}
+
+// The least common multiple of m and the two denominators of a side.
+fn common_of_side(m: u128, corner: Corner, point: Point) -> Result<u128, BuildStop>
+    requires { 0 < m }
+    ensures passed { OnOk result (AllByRecursion PassesScale (common_tests m (placed_row corner.polygon corner.side (point ∷ [])))) }
+    ensures value { IfOk result (λ den. den ≡ common_from m (placed_row corner.polygon corner.side (point ∷ []))) }
+    ensures positive { IfOk result (λ den. 0 < den) }
+    ensures within { IfOk result (λ den. den < 2 ^ 127) }
+    ensures failed { IfErr result (AnswersFirst PassesScale (common_tests m (placed_row corner.polygon corner.side (point ∷ []))) (λ test. answer (Scale test))) }
+{
+    let Some(with_x) = common_multiple(m, point.x) else {
+        return Err(overflow(corner, 1));
+    };
+    let Some(with_y) = common_multiple(with_x, point.y) else {
+        return Err(overflow(corner, 2));
+    };
+    Ok(with_y)
+}
+
+// The least common multiple of m and a denominator, where it is within the width.
+fn common_multiple(m: u128, x: Frac) -> Option<u128>
+    requires { 0 < m }
+    ensures value { SomeIff result (InWidth (pos (common_multiple m x.den))) (common_multiple m x.den) }
+    ensures positive { IfSome result (λ den. 0 < den) }
+    ensures within { IfSome result (λ den. den < 2 ^ 127) }
+{
+    let n = x.den().unsigned_abs();
+    match m.checked_mul(n / greatest_divisor(m, n)) {
+        Some(multiple) if multiple <= GREATEST => Some(multiple),
+        _ => None,
+    }
+}
+
+// The polygons times den, a multiple of all their denominators.
+fn scale_polygons(
+    alloc: Global,
+    den: u128,
+    polygons: &Sequence<Sequence<Point>>,
+) -> Result<Sequence<Sequence<V2>>, BuildStop>
+    requires within { den < 2 ^ 127 }
+    requires few { length polygons.now ≤ 256 }
+    requires short { AllByRecursion (λ polygon. length polygon ≤ 1024) polygons.now }
+    ensures passed { OnOk result (AllByRecursion PassesScale (part_tests den (placed polygons.now))) }
+    ensures scaled { IfOk result (λ rows. rows ≡ map (map (scaled_vector den)) polygons.now) }
+    ensures failed { IfErr result (λ e. (e ≡ BuildStop.NoMemory)
+        ⊎ AnswersFirst PassesScale (part_tests den (placed polygons.now)) (λ test. answer (Scale test)) e) }
+{
+    let mut rows = Sequence::new(alloc);
+    for (i, polygon) in polygons.as_slice().iter().enumerate() {
+        rows.push(scale_polygon(alloc, den, i as u16, polygon.as_slice())?)?;
+    }
+    Ok(rows)
+}
+
+// The sides of the polygon with the number i times den.
+fn scale_polygon(
+    alloc: Global,
+    den: u128,
+    i: u16,
+    points: &[Point],
+) -> Result<Sequence<V2>, BuildStop>
+    requires within { den < 2 ^ 127 }
+    requires short { length points.now ≤ 1024 }
+    ensures passed { OnOk result (AllByRecursion PassesScale (part_tests den (placed_row i 0 points.now))) }
+    ensures scaled { IfOk result (λ row. row ≡ map (scaled_vector den) points.now) }
+    ensures failed { IfErr result (λ e. (e ≡ BuildStop.NoMemory)
+        ⊎ AnswersFirst PassesScale (part_tests den (placed_row i 0 points.now)) (λ test. answer (Scale test)) e) }
+{
+    let mut row = Sequence::new(alloc);
+    for (j, point) in points.iter().enumerate() {
+        row.push(scale_side(
+            den,
+            Corner {
+                polygon: i,
+                side: j as u16,
+            },
+            *point,
+        )?)?;
+    }
+    Ok(row)
+}
+
+// The vector of a side times den.
+fn scale_side(den: u128, corner: Corner, point: Point) -> Result<V2, BuildStop>
+    requires { den < 2 ^ 127 }
+    ensures passed { OnOk result (AllByRecursion PassesScale (part_tests den (placed_row corner.polygon corner.side (point ∷ [])))) }
+    ensures scaled { IfOk result (λ vector. vector ≡ scaled_vector den point) }
+    ensures failed { IfErr result (AnswersFirst PassesScale (part_tests den (placed_row corner.polygon corner.side (point ∷ []))) (λ test. answer (Scale test))) }
+{
+    let x = scale_coordinate(den, point.x, corner, 3)?;
+    let y = scale_coordinate(den, point.y, corner, 5)?;
+    Ok(V2 { x, y })
+}
+
+// A coordinate times den, the places of its parts being `place` and the next.
+fn scale_coordinate(den: u128, x: Frac, corner: Corner, place: u32) -> Result<Elem, BuildStop>
+    requires within { den < 2 ^ 127 }
+    requires place { place ≤ 5 }
+    ensures passed { OnOk result (AllByRecursion PassesScale
+        (Part_fits corner.polygon corner.side place (den / x.den) x.num.p
+        ∷ Part_fits corner.polygon corner.side (place + 1) (den / x.den) x.num.q ∷ [])) }
+    ensures scaled { IfOk result (λ y. y ≡ scale (den / x.den) x.num) }
+    ensures failed { IfErr result (AnswersFirst PassesScale
+        (Part_fits corner.polygon corner.side place (den / x.den) x.num.p
+        ∷ Part_fits corner.polygon corner.side (place + 1) (den / x.den) x.num.q ∷ []) (λ test. answer (Scale test))) }
+{
+    let factor = factor(den, x);
+    let Some(p) = checked_product(factor, x.num().p()) else {
+        return Err(overflow(corner, place));
+    };
+    let Some(q) = checked_product(factor, x.num().q()) else {
+        return Err(overflow(corner, place + 1));
+    };
+    Ok(Elem::new(p, q))
+}
+
+// den over a denominator, which divides it.
+fn factor(den: u128, x: Frac) -> i128
+    requires { den < 2 ^ 127 }
+    ensures { result ≡ pos (den / x.den) }
+{
+    (den / x.den().unsigned_abs()) as i128
+}
+
+// The product, where it is within the width.
+fn checked_product(a: i128, b: i128) -> Option<i128>
+    ensures { SomeIff result (InWidth (a *ℤ b)) (a *ℤ b) }
+{
+    match a.checked_mul(b) {
+        Some(product) if product != i128::MIN => Some(product),
+        _ => None,
+    }
+}
+
+// A place of a side at which scaling leaves the width.
+fn overflow(corner: Corner, place: u32) -> BuildStop
+    ensures { result ≡ BuildStop.Overflow (Site.Scale corner.polygon corner.side place) }
+{
+    BuildStop::Overflow(Site::Scale {
+        polygon: u32::from(corner.polygon),
+        side: u32::from(corner.side),
+        place,
+    })
+}
