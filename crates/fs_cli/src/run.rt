@@ -1,83 +1,52 @@
-ghost use Rattle.std.specs.Prelude.{◌≡◌, ◌↔◌, ◌<◌, ◌≤◌, ℕ, List, Option, [], ◌++◌, ◌⊎◌, length, sum_by, IfOk, IsOkAnd, MatchResult, IfSome, string_bytes};
+ghost use Rattle.std.specs.Prelude.{◌≡◌, ◌↔◌, ◌<◌, ◌≤◌, ℕ, List, length, IfSome};
 ghost use Rattle.std.specs.Io.KnownBytes.{Appends, IsAtEnd, Keeps};
 ghost use Rattle.fs_io.specs.Faults.{Rose};
 ghost use Rattle.fs_io.specs.Whole.{most_bytes, TakesPrefix};
-ghost use Rattle.fs_gluing.specs.Surface.{IsSurface};
-ghost use Rattle.fs_cli.specs.Text.{fault_text};
+ghost use Rattle.fs_job.specs.Reading as reading;
 ghost use Rattle.fs_cli.specs.Answer.{IsAnswered, IsWhole, IsBroken, BeginsAnswer};
+ghost use Rattle.fs_cli.specs.Writing.{WritesAnswer};
 
+use crate::answering::{answer_all, refuse, stop_at};
 use crate::outcome::Status;
-use crate::reading::{ThinStop, read_thin};
-use crate::texts::{build_line, check_line, fault_line};
-use fs_gluing::{BuildStop, Fault, Surface, build};
-use fs_io::{ReadStop, Sink, Source, read_all, write_all};
-use std::alloc::{AllocError, Global};
+use fs_gluing::{BuildStop, Fault, Shape, build};
+use fs_io::{ReadStop, Sink, Source, read_all};
+use fs_job::{Form, JobStop, job_or_fault, read_job};
+use std::alloc::Global;
 
-// How many sides the polygons have together.
-fn count_sides(surface: &Surface) -> u16
-    ensures { result ≡ sum_by length surface.now.polygons }
+// The shape of a job of polygons.
+fn shape_of(form: &Form) -> &Shape
+    ensures { result.now ≡ reading.shape_of form.now }
 {
-    let mut sides = 0;
-    for i in 0..surface.polygons() {
-        sides += surface.sides(i);
+    match form {
+        Form::Polygons(shape) => shape,
     }
-    sides
 }
 
-// The line of a fault, and the status.
-fn refused(alloc: Global, fault: Fault) -> Result<(String, Status), AllocError>
-    ensures line { IfOk result (λ a. (string_bytes a.0 ≡ fault_text fault) × (a.1 ≡ Status.Refused)) }
-    ensures whole { IfOk result (λ a. IsWhole a.1) }
-{
-    Ok((fault_line(alloc, fault)?, Status::Refused))
-}
-
-// What is written for these bytes, and the status.
-fn answer(alloc: Global, bytes: &[u8]) -> Result<(String, Status), AllocError>
+// Writes the answer to these bytes.
+fn answer<O: Sink>(alloc: Global, bytes: &[u8], out: &mut O) -> Status
     requires { length bytes.now ≤ most_bytes }
-    ensures answered { IfOk result (λ a. IsAnswered bytes.now (string_bytes a.0) a.1) }
-    ensures whole { IfOk result (λ a. IsWhole a.1) }
+    ensures { WritesAnswer bytes.now result (O.held out.old) (O.held out.new) (O.faults out.old) (O.faults out.new) }
 {
-    let job = match read_thin(alloc, bytes) {
+    // Each text is one job or has one first fault, so a front of its answer is a front of each.
+    job_or_fault();
+    let job = match read_job(alloc, bytes) {
         Ok(job) => job,
-        Err(ThinStop::BadLine(line)) => return refused(alloc, Fault::BadLine { line }),
-        Err(ThinStop::NoMemory) => return Err(AllocError),
+        Err(JobStop::Fault(fault)) => return refuse(alloc, &fault, out),
+        Err(JobStop::NoMemory) => return Status::NoMemory,
     };
-    match build(alloc, job.field, &job.shape) {
-        Ok(surface) => {
-            let text = check_line(alloc, surface.polygons(), count_sides(&surface))?;
-            Ok((text, Status::Done))
-        }
-        Err(BuildStop::Fault(fault)) => refused(alloc, fault),
-        Err(BuildStop::Overflow(site)) => Ok((build_line(alloc, site)?, Status::Partial)),
-        Err(BuildStop::NoMemory) => Err(AllocError),
-    }
-}
-
-// Writes an answer, where there is one.
-fn reply<O: Sink>(answered: Result<(String, Status), AllocError>, out: &mut O) -> Status
-    requires { IfOk answered (λ a. IsWhole a.1) }
-    ensures kinds { IsWhole result ⊎ IsBroken result }
-    ensures whole { IsWhole result → IsOkAnd answered (λ a.
-        (a.1 ≡ result) × Appends (O.held out.old) (O.held out.new) (string_bytes a.0)) }
-    ensures broken { IsBroken result → (front : List ℕ) × Appends (O.held out.old) (O.held out.new) front
-        × MatchResult answered (λ a. (rest : List ℕ) × (string_bytes a.0 ≡ front ++ rest)) (λ _. front ≡ []) }
-    ensures write_fault { result ≡ Status.WriteFault → Rose (O.faults out.old) (O.faults out.new) }
-    ensures out_count { O.faults out.old ≤ O.faults out.new }
-{
-    let Ok((text, status)) = answered else {
-        return Status::NoMemory;
-    };
-    match write_all(out, text.as_bytes()) {
-        Ok(()) => status,
-        Err(_) => Status::WriteFault,
+    match build(alloc, job.field, shape_of(&job.form)) {
+        Ok(surface) => answer_all(alloc, &surface, job.commands.as_slice(), out),
+        Err(BuildStop::Fault(fault)) => refuse(alloc, &fault, out),
+        Err(BuildStop::Overflow(site)) => stop_at(alloc, &site, out),
+        Err(BuildStop::NoMemory) => Status::NoMemory,
     }
 }
 
 /// Reads a job, answers it, and says how that went.
 ///
-/// No word is admitted. `Refused` writes the line of the first fault, `Partial` the line of the
-/// site where building left the width, and `Done` the answer of the command.
+/// No word is admitted. `Refused` writes the line of the first fault. `Partial` writes the line of
+/// the site where building left the width, or the answers of the commands in order, of which one
+/// isn't whole. `Done` writes the answers of the commands in order: nothing where there are none.
 pub fn flat<I: Source, O: Sink>(
     alloc: Global,
     words: &[String],
@@ -112,8 +81,8 @@ pub fn flat<I: Source, O: Sink>(
         return Status::Usage;
     }
     match read_all(alloc, input) {
-        Ok(bytes) => reply(answer(alloc, &bytes), out),
-        Err(ReadStop::TooLong) => reply(refused(alloc, Fault::TooLong), out),
+        Ok(bytes) => answer(alloc, &bytes, out),
+        Err(ReadStop::TooLong) => refuse(alloc, &Fault::TooLong, out),
         Err(ReadStop::ReadFault) => Status::ReadFault,
         Err(ReadStop::NoMemory) => Status::NoMemory,
     }

@@ -1,0 +1,12 @@
+pub mod Lists
+pub mod OfPieces
+pub mod OfLines
+pub mod OfWords
+pub mod Digits
+pub mod Pairs
+pub mod Shown
+pub mod Read
+pub mod Drafting
+pub mod Leads
+pub mod Paths
+pub mod Comes

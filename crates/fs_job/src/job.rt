@@ -1,5 +1,9 @@
+ghost use Rattle.std.specs.Prelude.{◌≡◌};
+ghost use Rattle.fs_job.specs.declared.job.JobStop.TheVariants.{NoMemory};
+
 use fs_gluing::{Fault, Sequence, Shape};
 use fs_quadratic::Field;
+use std::alloc::AllocError;
 
 /// What a job asks of its surface.
 #[derive(Clone, Copy, Debug, PartialEq, Eq, Hash)]
@@ -30,4 +34,12 @@ pub enum JobStop {
     Fault(Fault),
     /// Memory ran out.
     NoMemory,
+}
+
+impl From<AllocError> for JobStop {
+    ghost from_gives = { λ _ e. e ≡ NoMemory };
+
+    fn from(_e: AllocError) -> JobStop {
+        JobStop::NoMemory
+    }
 }

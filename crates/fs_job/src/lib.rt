@@ -1,10 +1,19 @@
 // The text of a job: which bytes are which job, and the first fault of all others.
 #![tactic(auto)]
 
+mod draft_job;
+mod drafts;
+mod forms;
 mod job;
 mod laws;
+mod lines;
+mod pieces;
+mod points;
 mod reading;
 mod sites;
+#[cfg(test)]
+mod tests;
+mod words;
 
 pub use job::{Command, Form, Job, JobStop};
 pub use laws::job_or_fault;

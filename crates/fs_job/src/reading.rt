@@ -1,11 +1,52 @@
-ghost use Rattle.std.specs.Prelude.{◌≡◌, ◌⊎◌, ◌≤◌, length, IfOk, IfErr};
+ghost use Rattle.std.specs.Prelude.{◌≡◌, ◌≢◌, ◌⊎◌, ◌≤◌, [], length, IfOk, IfErr};
 ghost use Rattle.fs_gluing.specs.declared.faults.Fault.{Fault};
 ghost use Rattle.fs_gluing.specs.Shape.{IsWithinLimits};
-ghost use Rattle.fs_job.specs.Grammar.{ReadsJob, IsFirstFault};
+ghost use Rattle.fs_job.specs.Pieces.{IsText, words_of};
+ghost use Rattle.fs_job.specs.Grammar.{Nothing, Leads, ReadsJob, IsFirstFault};
 ghost use Rattle.fs_job.specs.Reading.{described, shape_of};
+ghost use Rattle.fs_job.specs.Stage.{Comes, progress_of};
 
+use crate::drafts::{Stage, add_line, begin};
+use crate::forms::{is_header, read_line};
 use crate::job::{Job, JobStop};
+use crate::lines::next_line;
+use crate::words::{is_text, next_word};
+use fs_gluing::Fault;
 use std::alloc::Global;
+
+// Where a line behind the header leads, which isn't blank.
+fn behind_header(alloc: Global, stage: Stage, number: u32, line: &[u8]) -> Result<Stage, JobStop>
+    requires text { IsText line.now }
+    requires words { words_of line.now ≢ [] }
+    requires header { progress_of stage ≢ Nothing }
+    ensures { Comes (Leads number (progress_of stage) line.now) result }
+{
+    let Some(form) = read_line(line) else {
+        return Err(JobStop::Fault(Fault::BadLine { line: number }));
+    };
+    match stage {
+        Stage::Headed => begin(alloc, number, form),
+        Stage::Drafted(draft) => add_line(alloc, draft, number, form),
+        _ => Err(JobStop::Fault(Fault::BadLine { line: number })),
+    }
+}
+
+// Where a line with this number leads.
+fn step(alloc: Global, stage: Stage, number: u32, line: &[u8]) -> Result<Stage, JobStop>
+    ensures { Comes (Leads number (progress_of stage) line.now) result }
+{
+    if !is_text(line) {
+        return Err(JobStop::Fault(Fault::NotAscii { line: number }));
+    }
+    if next_word(line).is_none() {
+        return Ok(stage);
+    }
+    match stage {
+        Stage::Start if is_header(line) => Ok(Stage::Headed),
+        Stage::Start => Err(JobStop::Fault(Fault::BadHeader)),
+        stage => behind_header(alloc, stage, number, line),
+    }
+}
 
 /// The job that these bytes are, of which there are at most 1,048,576.
 ///
@@ -22,7 +63,18 @@ pub fn read_job(alloc: Global, bytes: &[u8]) -> Result<Job, JobStop>
     ensures fault { IfErr result (λ e. (e ≡ JobStop.NoMemory)
         ⊎ ((fault : Fault) × (e ≡ JobStop.Fault fault) × IsFirstFault bytes.now fault)) }
 {
-    let _ = alloc;
-    let _ = bytes;
-    Err(JobStop::NoMemory)
+    let mut stage = Stage::Start;
+    let mut number = 0;
+    let mut rest = Some(bytes);
+    while let Some(text) = rest {
+        let (line, more) = next_line(text);
+        number += 1;
+        stage = step(alloc, stage, number, line)?;
+        rest = more;
+    }
+    match stage {
+        Stage::Ended(draft) => Ok(draft.into_job()),
+        Stage::Start => Err(JobStop::Fault(Fault::BadHeader)),
+        _ => Err(JobStop::Fault(Fault::NoEnd)),
+    }
 }

@@ -1,10 +1,10 @@
 ghost use Rattle.std.specs.Prelude.{◌≡◌, ◌≤◌, length, sum_by, IfOk, string_bytes};
-ghost use Rattle.fs_report.specs.Text.{command_text, is_partial};
+ghost use Rattle.fs_report.specs.Text.{check_text, command_text, is_partial};
 
 use fs_fraction::NoMemory;
 use fs_gluing::Surface;
 use fs_job::Command;
-use std::alloc::Global;
+use std::alloc::{AllocError, Global};
 
 /// What a command answers.
 #[derive(Drop)]
@@ -13,6 +13,34 @@ pub struct Answer {
     pub text: String,
     /// Whether that is an overflow or a spent budget in the place of the whole answer.
     pub partial: bool,
+}
+
+// How many sides the polygons have together.
+fn count_sides(surface: &Surface) -> u16
+    ensures { result ≡ sum_by length surface.now.polygons }
+{
+    let mut sides = 0;
+    for i in 0..surface.polygons() {
+        sides += surface.sides(i);
+    }
+    sides
+}
+
+// The line with these two numbers.
+fn counts_line(alloc: Global, polygons: u16, sides: u16) -> Result<String, AllocError>
+    ensures { IfOk result (λ line. string_bytes line ≡ check_text polygons sides) }
+{
+    format!(in alloc; "check polygons {polygons} sides {sides}\n")
+}
+
+// The line that counts the polygons and the sides.
+fn check_line(alloc: Global, surface: &Surface) -> Result<String, NoMemory>
+    ensures { IfOk result (λ line.
+        string_bytes line ≡ check_text (length surface.now.polygons) (sum_by length surface.now.polygons)) }
+{
+    let sides = count_sides(surface);
+    let line = counts_line(alloc, surface.polygons(), sides)?;
+    Ok(line)
 }
 
 /// What a command answers of a surface, within a budget of 1 to 1,000,000 steps.

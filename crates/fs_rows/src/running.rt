@@ -31,11 +31,26 @@ pub fn square_with(alloc: Global, number: usize, text: &str) -> Result<Vec<u8>, 
 // What is written for a job, and the status.
 pub fn run(alloc: Global, job: Vec<u8>) -> Result<(Status, MemSink), Fail> {
     let mut input = MemSource::new(job, 64, Vec::new(alloc));
-    let mut out = MemSink::new(alloc, 256, Vec::new(alloc))
+    let mut out = MemSink::new(alloc, 8192, Vec::new(alloc))
         .ok()
         .ok_or("no room")?;
     let status = flat(alloc, &[], &mut input, &mut out);
     Ok((status, out))
+}
+
+// That the unit square's job, with this text in the place of one of its lines, is answered with
+// these lines, and with the status that belongs to them.
+pub fn expect_change(
+    rt: &impl Abort,
+    alloc: Global,
+    number: usize,
+    text: &str,
+    answer: &str,
+) -> Result<(), Fail> {
+    let (status, out) = run(alloc, square_with(alloc, number, text)?)?;
+    assert_eq!(rt; out.held(), answer.as_bytes(), "line {number}: {text}");
+    assert_eq!(rt; status, status_of(answer), "line {number}: {text}");
+    Ok(())
 }
 
 // That the job which checks these polygon and glue lines is answered with this line, and with the

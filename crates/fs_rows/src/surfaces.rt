@@ -1,4 +1,4 @@
-use crate::running::{expect, run, square_with, status_of};
+use crate::running::{expect, expect_change};
 use std::alloc::{AllocError, Global};
 use std::test::Fail;
 
@@ -115,9 +115,7 @@ fn one_change(rt: HostRuntime) -> Result<(), Fail> {
         ),
         (4, "glue 0.0000 00.2\n", "check polygons 1 sides 4\n"),
     ] {
-        let (got, out) = run(rt.alloc(), square_with(rt.alloc(), number, text)?)?;
-        assert_eq!(rt; out.held(), answer.as_bytes(), "line {number}: {text}");
-        assert_eq!(rt; got, status_of(answer), "line {number}: {text}");
+        expect_change(&rt, rt.alloc(), number, text, answer)?;
     }
     Ok(())
 }
@@ -212,6 +210,12 @@ fn two_faults(rt: HostRuntime) -> Result<(), Fail> {
             "glue 0.0 0.2\nglue 0.1 0.3\nglue 1.0 1.2\n",
             "refused 17 Unglued 1.1\n",
         ),
+        // A second square that is glued to itself alone.
+        (
+            TWO_SQUARES,
+            "glue 0.0 0.2\nglue 0.1 0.3\nglue 1.0 1.2\nglue 1.1 1.3\n",
+            "refused 18 Apart 1\n",
+        ),
     ] {
         expect(&rt, rt.alloc(), 2, (polygons, ""), glues, answer)?;
     }
@@ -271,6 +275,37 @@ fn wide_corners(rt: HostRuntime) -> Result<(), Fail> {
     Ok(())
 }
 
+// Sides whose common denominator leaves the width at the third one, before it is tried whether they
+// close; one whose parts leave it; and two that are scaled before the first polygon is tested.
+#[test]
+fn wide_scales(rt: HostRuntime) -> Result<(), Fail> {
+    for (first, second, answer) in [
+        (
+            "polygon 1/999999999999999989,0 0,1/999999999999999967 1/999999999999999877,0 -1,-1\n",
+            "",
+            "build overflow scale 0 2 1\n",
+        ),
+        (
+            "polygon 1/999999999999999989,0 0,1/999999999999999967 999999999999999999,1/3 -1,-1\n",
+            "",
+            "build overflow scale 0 2 3\n",
+        ),
+        (
+            "polygon 1,0\n",
+            "polygon 1/999999999999999989,1/999999999999999967 1/2,1/999999999999999877\n",
+            "build overflow scale 1 1 2\n",
+        ),
+        (
+            "polygon 1/999999999999999989,0 0,1/2 -1/999999999999999989,0 0,-1/2\n",
+            "",
+            "refused 17 Unglued 0.0\n",
+        ),
+    ] {
+        expect(&rt, rt.alloc(), 2, (first, second), "", answer)?;
+    }
+    Ok(())
+}
+
 // The polygon lines and the glue lines of so many squares in a row, or in two rows of equal length.
 // Each side 1 is glued to side 3 of the next square, that of a row's last square to the first one's,
 // and each side 0 to the square's own side 2.
@@ -298,7 +333,7 @@ fn limits(rt: HostRuntime) -> Result<(), Fail> {
     for (squares, two, answer) in [
         (256, false, "check polygons 256 sides 1024\n"),
         (256, true, "refused 18 Apart 128\n"),
-        (257, false, "refused 3 BadLine line 259\n"),
+        (257, false, "refused 6 TooMany line 259\n"),
     ] {
         let (polygons, glues) = rings(rt.alloc(), squares, two)?;
         expect(&rt, rt.alloc(), 2, (&polygons, ""), &glues, answer)?;

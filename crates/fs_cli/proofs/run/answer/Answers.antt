@@ -1,36 +1,39 @@
-use Rattle.std.proofs.Common.{◌≡◌, ◌≢◌, ℕ, length, refl, sym, ap, ◌∙◌}
-use Rattle.std.proofs.lemmas.Result.{IfOk-weaker}
-use Rattle.fs_gluing.specs.declared.faults.BuildStop.{BuildStop}
+use Rattle.std.proofs.Common.{Ok, Err, subst}
 use Rattle.fs_gluing.specs.declared.faults.BuildStop.TheVariants as stops
-use Rattle.fs_cli.specs.Answer.{stop_text, stop_status}
-use Rattle.fs_cli.specs.Text.{check_text}
-use Rattle.fs_cli.specs.Stage.{job_of}
-use Rattle.fs_cli.proofs.Answered.{bad_answer, unbuilt_answer, built_answer}
+use Rattle.fs_gluing.specs.declared.shapes.Shape.{Shape}
+use Rattle.fs_gluing.specs.FirstFault.{Judges}
+use Rattle.fs_job.specs.Reading.{described}
+use Rattle.fs_report.specs.Text.{fault_text}
+use Rattle.fs_cli.specs.declared.outcome.Status.TheVariants as status
+use Rattle.fs_cli.proofs.Answered.{JobLaw}
+use Rattle.fs_cli.proofs.Written.{writes_answer, writes_commands, at_fault, built, not_built}
 use Rattle.fs_cli.proofs.run.answer.Goals as goal
 
-pub returns-in-Err-BadLine-clause-answered : goal.returns-in-Err-BadLine-clause-answered
-returns-in-Err-BadLine-clause-answered c =
-    IfOk-weaker c.refused.result _ _ (λ a line. bad_answer c.args.bytes.now c.in-Err-BadLine.line c.in-Err-BadLine.field-0 c.in-Err-BadLine.field-0-is c.requires c.in-Err-BadLine.ensures.bad _ _ line.0 line.1) c.refused.ensures.line
+pub returns-in-Err-Fault : goal.returns-in-Err-Fault
+returns-in-Err-Fault g c =
+    let law : JobLaw = record { one_job = c.job_or_fault.ensures.one_job; one_fault = c.job_or_fault.ensures.one_fault; not_both = c.job_or_fault.ensures.not_both; not_neither = c.job_or_fault.ensures.not_neither } in
+    writes_answer law c.args.bytes.now (fault_text c.in-Err-Fault.fault) status.Refused _ _ _ _ _
+    (at_fault c.args.bytes.now c.in-Err-Fault.field-0 c.in-Err-Fault.fault c.in-Err-Fault.field-0-is c.requires c.in-Err-Fault.ensures.fault) c.refuse.ensures
 
-pub returns-in-Ok-build-clause-answered : goal.returns-in-Ok-build-clause-answered
-returns-in-Ok-build-clause-answered c =
-    built_answer c.args.bytes.now (job_of c.in-Ok.job) c.in-Ok-build.surface c.requires c.in-Ok.ensures.job c.in-Ok-build.ensures.judged _ _
-    (c.in_ok-text-in-Ok-build.ensures ∙ (ap (λ (n : ℕ). check_text n c.count_sides.result) c.polygons.ensures.polygons ∙ ap (λ (n : ℕ). check_text (length c.in-Ok-build.surface.polygons) n) c.count_sides.ensures)) refl
+pub returns-in-Ok-build : goal.returns-in-Ok-build
+returns-in-Ok-build g c =
+    let law : JobLaw = record { one_job = c.job_or_fault.ensures.one_job; one_fault = c.job_or_fault.ensures.one_fault; not_both = c.job_or_fault.ensures.not_both; not_neither = c.job_or_fault.ensures.not_neither } in
+    let judged = subst (λ (shape : Shape). Judges c.in-Ok.job.field.d shape (Ok c.in-Ok-build.surface)) c.shape_of.ensures c.in-Ok-build.ensures.judged in
+    writes_answer law c.args.bytes.now _ _ _ _ _ _ _ (built c.args.bytes.now (described c.in-Ok.job) c.in-Ok-build.surface c.requires c.in-Ok.ensures.job judged)
+    (writes_commands c.in-Ok-build.surface _ _ _ _ _ _ _ c.as_slice.ensures c.answer_all.ensures)
 
-some_fault : (e : BuildStop) (f : _) → e ≡ stops.Fault f → e ≢ stops.NoMemory
-some_fault e f is none = absurd (cc (sym is ∙ none))
+pub returns-in-Err-Fault-build : goal.returns-in-Err-Fault-build
+returns-in-Err-Fault-build g c =
+    let law : JobLaw = record { one_job = c.job_or_fault.ensures.one_job; one_fault = c.job_or_fault.ensures.one_fault; not_both = c.job_or_fault.ensures.not_both; not_neither = c.job_or_fault.ensures.not_neither } in
+    let judged = subst (λ (shape : Shape). Judges c.in-Ok.job.field.d shape (Err c.in-Err-Fault-build.field-0)) c.shape_of.ensures c.in-Err-Fault-build.ensures.judged in
+    writes_answer law c.args.bytes.now _ _ _ _ _ _ _
+    (not_built c.args.bytes.now (described c.in-Ok.job) c.in-Err-Fault-build.field-0 (stops.Fault c.in-Err-Fault-build.fault) c.in-Err-Fault-build.field-0-is c.requires c.in-Ok.ensures.job judged (λ e. cc e))
+    c.refuse-in-Err-Fault-build.ensures
 
-some_site : (e : BuildStop) (s : _) → e ≡ stops.Overflow s → e ≢ stops.NoMemory
-some_site e s is none = absurd (cc (sym is ∙ none))
-
-pub returns-in-Err-Fault-clause-answered : goal.returns-in-Err-Fault-clause-answered
-returns-in-Err-Fault-clause-answered c =
-    IfOk-weaker c.refused-in-Err-Fault.result _ _
-    (λ a line. unbuilt_answer c.args.bytes.now (job_of c.in-Ok.job) c.in-Err-Fault.field-0 c.requires c.in-Ok.ensures.job c.in-Err-Fault.ensures.judged (some_fault _ _ c.in-Err-Fault.field-0-is) _ _
-    (line.0 ∙ sym (ap stop_text c.in-Err-Fault.field-0-is)) (line.1 ∙ sym (ap stop_status c.in-Err-Fault.field-0-is)))
-    c.refused-in-Err-Fault.ensures.line
-
-pub returns-in-Err-Overflow-clause-answered : goal.returns-in-Err-Overflow-clause-answered
-returns-in-Err-Overflow-clause-answered c =
-    unbuilt_answer c.args.bytes.now (job_of c.in-Ok.job) c.in-Err-Overflow.field-0 c.requires c.in-Ok.ensures.job c.in-Err-Overflow.ensures.judged (some_site _ _ c.in-Err-Overflow.field-0-is) _ _
-    (c.in_ok-build_line-in-Err-Overflow.ensures ∙ sym (ap stop_text c.in-Err-Overflow.field-0-is)) (sym (ap stop_status c.in-Err-Overflow.field-0-is))
+pub returns-in-Err-Overflow : goal.returns-in-Err-Overflow
+returns-in-Err-Overflow g c =
+    let law : JobLaw = record { one_job = c.job_or_fault.ensures.one_job; one_fault = c.job_or_fault.ensures.one_fault; not_both = c.job_or_fault.ensures.not_both; not_neither = c.job_or_fault.ensures.not_neither } in
+    let judged = subst (λ (shape : Shape). Judges c.in-Ok.job.field.d shape (Err c.in-Err-Overflow.field-0)) c.shape_of.ensures c.in-Err-Overflow.ensures.judged in
+    writes_answer law c.args.bytes.now _ _ _ _ _ _ _
+    (not_built c.args.bytes.now (described c.in-Ok.job) c.in-Err-Overflow.field-0 (stops.Overflow c.in-Err-Overflow.site) c.in-Err-Overflow.field-0-is c.requires c.in-Ok.ensures.job judged (λ e. cc e))
+    c.stop_at.ensures

@@ -1,0 +1,132 @@
+-- What is known of a job: its shape is within the limits, and all denominators are above 0.
+use Rattle.std.proofs.Common.{◌≡◌, ◌≢◌, ℕ, ◌+◌, ◌*◌, ◌<◌, ◌≤◌, pos, ◌*ℤ◌, Option, Some, None, Result, Ok, Err, List, [], ◌∷◌, ◌++◌, length, sum_by, refl, sym, ap, ◌∙◌, subst, arith, length-append, zero-add}
+use Rattle.std.specs.List.{AllByRecursion}
+use Rattle.std.specs.Str.Parse.{digits_value}
+use Rattle.std.proofs.lemmas.List.Sums.{sum_by-append}
+use Rattle.fs_quadratic.proofs.Firsts.{All-append, All-front, All-back}
+use Rattle.fs_quadratic.specs.Radicand.{IsRadicand}
+use Rattle.fs_fraction.proofs.Lowest.{reduced-positive}
+use Rattle.fs_fraction.specs.declared.number.NumberFault.{NumberFault}
+use Rattle.fs_fraction.specs.Fraction.{Fraction}
+use Rattle.fs_fraction.specs.Number.{Reads, number, too_wide, undefined, foreign, Written, Rational, Root, Both, IsDefined, over_value, under_value, under_runs, value}
+use Rattle.fs_gluing.specs.declared.faults.Fault.{Fault}
+use Rattle.fs_gluing.specs.declared.shapes.Point.{Point}
+use Rattle.fs_job.specs.Grammar.{Draft, Progress, Nothing, Headed, Drafted, Ended, draft_of, MayCome, HasRoom, MakesSense, ArePoints, Adds, Outcome, Next, Faulty, Leads, Path, ReadsJob}
+use Rattle.fs_job.specs.Grammar.Leads as leads
+use Rattle.fs_job.specs.Pieces.{lines_of}
+use Rattle.fs_job.specs.Statement.{Pair, Statement, Field_line, Polygon_line, Glue_line, Command_line, End_line}
+
+-- ---- numbers that are read have a denominator above 0
+
+under_positive : (o : Option (List ℕ)) → AllByRecursion (λ run. digits_value 10 run ≡ 0 → ⊥) (under_runs o) → 0 < under_value o
+under_positive None a = omega arith
+under_positive (Some digits) a = let some = a.0 in omega arith
+
+product_positive : (m n : ℕ) → 0 < m → 0 < n → 0 < m * n
+product_positive m n a b = grind arith
+
+value_positive : (w : Written) → IsDefined w → 0 < (value w).den
+value_positive (Rational minus a) d = reduced-positive (record { p = over_value minus a; q = pos 0 }) (under_value a.under) (under_positive a.under d)
+value_positive (Root minus a) d = reduced-positive (record { p = pos 0; q = over_value minus a }) (under_value a.under) (under_positive a.under d)
+value_positive (Both minus a minus' b) d = reduced-positive
+    (record { p = over_value minus a *ℤ pos (under_value b.under); q = over_value minus' b *ℤ pos (under_value a.under) })
+    (under_value a.under * under_value b.under)
+    (product_positive (under_value a.under) (under_value b.under)
+    (under_positive a.under (All-front _ (under_runs a.under) (under_runs b.under) d))
+    (under_positive b.under (All-back _ (under_runs a.under) (under_runs b.under) d)))
+
+same_value : {E : Type 0} (x y : Fraction) → ◌≡◌ {A = Result Fraction E} (Ok x) (Ok y) → x ≡ y
+same_value x y e = cc
+
+no_value : {E : Type 0} (x : Fraction) (fault : E) → ◌≡◌ {A = Result Fraction E} (Ok x) (Err fault) → ⊥
+no_value x fault e = cc
+
+reads_positive : (text : List ℕ) (x : Fraction) → Reads text (Ok x) → 0 < x.den
+reads_positive text x (number w spells narrow defined is) = subst (λ (y : Fraction). 0 < y.den) (sym (same_value x (value w) is)) (value_positive w defined)
+reads_positive text x (too_wide w spells wide is) = absurd (no_value x _ is)
+reads_positive text x (undefined w spells narrow not is) = absurd (no_value x _ is)
+reads_positive text x (foreign none is) = absurd (no_value x _ is)
+
+-- both denominators are above 0
+abbrev pub HasDenominators : Point → Type 0
+HasDenominators point = (0 < point.x.den) × (0 < point.y.den)
+
+points_positive : (pairs : List Pair) (points : List Point) → ArePoints pairs points → AllByRecursion HasDenominators points
+points_positive [] [] a = tt
+points_positive [] (point ∷ points) a = absurd a
+points_positive (pair ∷ pairs) [] a = absurd a
+points_positive (pair ∷ pairs) (point ∷ points) a = ((reads_positive pair.x point.x a.0, reads_positive pair.y point.y a.1), points_positive pairs points a.2)
+
+as_many : (pairs : List Pair) (points : List Point) → ArePoints pairs points → length points ≡ length pairs
+as_many [] [] a = refl
+as_many [] (point ∷ points) a = absurd a
+as_many (pair ∷ pairs) [] a = absurd a
+as_many (pair ∷ pairs) (point ∷ points) a = let rest = as_many pairs points a.2 in omega arith
+
+-- ---- line by line
+
+pub record IsSound (draft : Draft) : Type 0 where
+  pub radicand : IsRadicand draft.d
+  pub polygons : length draft.polygons ≤ 256
+  pub sides : sum_by length draft.polygons ≤ 1024
+  pub points : AllByRecursion (AllByRecursion HasDenominators) draft.polygons
+
+abbrev pub Known : Progress → Type 0
+Known Nothing = Unit {0}
+Known Headed = Unit {0}
+Known (Drafted draft) = IsSound draft
+Known (Ended draft) = IsSound draft × (draft.polygons ≢ [])
+
+sum_more : (xss : List (List Point)) (xs : List Point) → sum_by length (xss ++ xs ∷ []) ≡ sum_by length xss + length xs
+sum_more xss xs = sum_by-append length xss (xs ∷ []) ∙ ap (λ (n : ℕ). sum_by length xss + n) (zero-add (length xs))
+
+polygon_added : (draft : Draft) (pairs : List Pair) (points : List Point) → IsSound draft → HasRoom draft (Polygon_line pairs) → ArePoints pairs points
+    → IsSound (record draft { polygons = draft.polygons ++ points ∷ [] })
+polygon_added draft pairs points sound room are = record {
+  radicand = sound.radicand;
+  polygons = let few = room.0 in omega (arith, length-append draft.polygons (points ∷ []));
+  sides = let few = room.1 in let same = as_many pairs points are in omega (arith, sum_more draft.polygons points);
+  points = All-append (AllByRecursion HasDenominators) draft.polygons (points ∷ []) sound.points (points_positive pairs points are, tt);
+}
+
+adds_known : (n : ℕ) (before : Progress) (s : Statement) (after : Progress) → Known before → MayCome before s → HasRoom (draft_of before) s → MakesSense s → Adds n (draft_of before) s after → Known after
+adds_known n Nothing s after known may room sense adds = absurd may
+adds_known n Headed (Field_line d) after known may room sense adds =
+    subst Known (sym adds) (record { radicand = sense; polygons = omega arith; sides = omega arith; points = tt })
+adds_known n Headed (Polygon_line pairs) after known may room sense adds = absurd may
+adds_known n Headed (Glue_line one two) after known may room sense adds = absurd may
+adds_known n Headed (Command_line command) after known may room sense adds = absurd may
+adds_known n Headed End_line after known may room sense adds = absurd may
+adds_known n (Drafted draft) (Field_line d) after known may room sense adds = absurd may
+adds_known n (Drafted draft) (Polygon_line pairs) after known may room sense adds = subst Known (sym adds.2) (polygon_added draft pairs adds.0 known room adds.1)
+adds_known n (Drafted draft) (Glue_line one two) after known may room sense adds =
+    subst Known (sym adds) (record { radicand = known.radicand; polygons = known.polygons; sides = known.sides; points = known.points })
+adds_known n (Drafted draft) (Command_line command) after known may room sense adds =
+    subst Known (sym adds) (record { radicand = known.radicand; polygons = known.polygons; sides = known.sides; points = known.points })
+adds_known n (Drafted draft) End_line after known may room sense adds = subst Known (sym adds) (known, may)
+adds_known n (Ended draft) s after known may room sense adds = absurd may
+
+same_next : (a b : Progress) → Next a ≡ Next b → a ≡ b
+same_next a b e = cc
+
+no_next : (a : Progress) (fault : Fault) → Next a ≡ Faulty fault → ⊥
+no_next a fault e = cc
+
+leads_known : (n : ℕ) (before : Progress) (line : List ℕ) (after : Progress) → Known before → Leads n before line (Next after) → Known after
+leads_known n before line after known (leads.foreign not e) = absurd (no_next after _ e)
+leads_known n before line after known (leads.blank text none e) = subst Known (sym (same_next after _ e)) known
+leads_known n before line after known (leads.headed text first header e) = subst Known (sym (same_next after _ e)) tt
+leads_known n before line after known (leads.unheaded text first some other e) = absurd (no_next after _ e)
+leads_known n before line after known (leads.misplaced text later some none e) = absurd (no_next after _ e)
+leads_known n before line after known (leads.crowded s text shows may full e) = absurd (no_next after _ e)
+leads_known n before line after known (leads.unread s fault text shows may room first e) = absurd (no_next after _ e)
+leads_known n before line after known (leads.senseless s text shows may room read not e) = absurd (no_next after _ e)
+leads_known n before line after known (leads.taken s next text shows may room sense adds e) =
+    subst Known (sym (same_next after next e)) (adds_known n before s next known may room sense adds)
+
+path_known : (n : ℕ) (before : Progress) (lines : List (List ℕ)) (after : Progress) → Known before → Path n before lines after → Known after
+path_known n before [] after known p = subst Known p known
+path_known n before (line ∷ lines) after known p = path_known (n + 1) p.0 lines after (leads_known n before line p.0 known p.1) p.2
+
+pub job_known : (bytes : List ℕ) (draft : Draft) → ReadsJob bytes draft → IsSound draft × (draft.polygons ≢ [])
+job_known bytes draft reads = path_known 1 Nothing (lines_of bytes) (Ended draft) tt reads

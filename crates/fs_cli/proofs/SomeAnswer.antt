@@ -1,0 +1,34 @@
+-- There is an answer to all bytes.
+use Rattle.std.proofs.Common.{◌≡◌, ◌≤◌, ℕ, List, [], ◌∷◌, ◌++◌, length, refl, sym, ◌∙◌, subst, arith, append-nil, append_assoc}
+use Rattle.std.specs.List.{AllByRecursion}
+use Rattle.fs_io.specs.Whole.{most_bytes}
+use Rattle.fs_quadratic.proofs.Firsts.{All-append}
+use Rattle.fs_quadratic.specs.First.{IsFirstWithout}
+use Rattle.fs_gluing.specs.FirstFault.{PassesOf, tests_of}
+use Rattle.fs_cli.specs.declared.outcome.Status.{Status}
+use Rattle.fs_cli.specs.Answer.{IsAnswered, Too_long, At_fault, Not_built, Answered, shape_of}
+use Rattle.fs_cli.proofs.Answered.{JobLaw}
+use Rattle.fs_cli.proofs.Surfaces.{surface_of_job}
+
+-- a shape passes all tests, or there is a first that it fails
+module _ {X : Type 0} (P : X → Type 0) (xs : List X) (no_first : (x : X) → ¬ IsFirstWithout P xs x) (not_all : ¬ AllByRecursion P xs) where
+  walk : (before rest : List X) → xs ≡ before ++ rest → AllByRecursion P before → ⊥
+  walk before [] e all = not_all (subst (AllByRecursion P) (sym (e ∙ append-nil before)) all)
+  walk before (x ∷ rest) e all =
+      let not_here : ¬ P x = λ here. walk (before ++ x ∷ []) rest (e ∙ sym (append_assoc before (x ∷ []) rest)) (All-append P before (x ∷ []) all (here, tt)) in
+      no_first x (record { before = before; after = rest; whole = e; passed = all; fails = not_here })
+
+  pub first_or_all : ⊥
+  first_or_all = walk [] xs refl tt
+
+module _ (law : JobLaw) where
+  pub some_answer : (bytes : List ℕ) → ((output : List ℕ) (result : Status) → ¬ IsAnswered bytes output result) → ⊥
+  some_answer bytes none =
+      by_length (λ few. law.not_neither bytes
+      (λ draft reads. first_or_all (PassesOf draft.d (shape_of draft)) (tests_of (shape_of draft))
+      (λ test first. none _ _ (Not_built draft test few reads first refl refl))
+      (λ all. let s = surface_of_job bytes draft reads all in none _ _ (Answered draft s.0 few reads s.1 s.2 all refl refl)))
+      (λ fault at. none _ _ (At_fault fault few at refl refl)))
+    where
+      by_length : ¬ (length bytes ≤ most_bytes) → ⊥
+      by_length many = none _ _ (Too_long (omega arith) refl refl)

@@ -1,0 +1,83 @@
+ghost use Rattle.std.specs.Prelude.{◌∷◌, []};
+ghost use Rattle.fs_report.specs.Text.{fault_text, build_text, command_text};
+ghost use Rattle.fs_cli.specs.Answer.{IsWhole, texts, status_of};
+ghost use Rattle.fs_cli.specs.Writing.{Writes, command_status};
+
+use crate::outcome::Status;
+use fs_gluing::{Fault, Surface};
+use fs_io::{Sink, write_all};
+use fs_job::Command;
+use fs_plane::Site;
+use fs_report::{build_line, fault_line, find_answer};
+use std::alloc::Global;
+
+// How many steps a command may take.
+const BUDGET: u32 = 100_000;
+
+// Writes a text, whose status this is.
+fn write_text<O: Sink>(text: &str, status: Status, out: &mut O) -> Status
+    requires { IsWhole status }
+    ensures { Writes text.now status result (O.held out.old) (O.held out.new) (O.faults out.old) (O.faults out.new) }
+{
+    match write_all(out, text.as_bytes()) {
+        Ok(()) => status,
+        Err(_) => Status::WriteFault,
+    }
+}
+
+// Writes the line of a fault.
+pub(crate) fn refuse<O: Sink>(alloc: Global, fault: &Fault, out: &mut O) -> Status
+    ensures { Writes (fault_text fault.now) Status.Refused result (O.held out.old) (O.held out.new) (O.faults out.old) (O.faults out.new) }
+{
+    let Ok(line) = fault_line(alloc, fault) else {
+        return Status::NoMemory;
+    };
+    write_text(&line, Status::Refused, out)
+}
+
+// Writes the line of the site where building left the width.
+pub(crate) fn stop_at<O: Sink>(alloc: Global, site: &Site, out: &mut O) -> Status
+    ensures { Writes (build_text site.now) Status.Partial result (O.held out.old) (O.held out.new) (O.faults out.old) (O.faults out.new) }
+{
+    let Ok(line) = build_line(alloc, site) else {
+        return Status::NoMemory;
+    };
+    write_text(&line, Status::Partial, out)
+}
+
+// Writes the answer of one command.
+fn answer_one<O: Sink>(alloc: Global, surface: &Surface, command: &Command, out: &mut O) -> Status
+    ensures { Writes (command_text surface.now command.now) (command_status surface.now command.now) result
+        (O.held out.old) (O.held out.new) (O.faults out.old) (O.faults out.new) }
+{
+    let Ok(answer) = find_answer(alloc, surface, command, BUDGET) else {
+        return Status::NoMemory;
+    };
+    let status = if answer.partial {
+        Status::Partial
+    } else {
+        Status::Done
+    };
+    write_text(&answer.text, status, out)
+}
+
+// Writes the answers of commands in order, each before the next one is sought.
+pub(crate) fn answer_all<O: Sink>(
+    alloc: Global,
+    surface: &Surface,
+    commands: &[Command],
+    out: &mut O,
+) -> Status
+    ensures { Writes (texts surface.now commands.now) (status_of surface.now commands.now) result
+        (O.held out.old) (O.held out.new) (O.faults out.old) (O.faults out.new) }
+{
+    let mut status = Status::Done;
+    for command in commands {
+        match answer_one(alloc, surface, command, out) {
+            Status::Done => {}
+            Status::Partial => status = Status::Partial,
+            broken => return broken,
+        }
+    }
+    status
+}

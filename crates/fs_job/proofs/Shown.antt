@@ -1,0 +1,180 @@
+-- Words show one statement at most, and which words show none.
+use Rattle.std.proofs.Common.{◌≡◌, ◌≢◌, ℕ, ◌≤◌, List, [], ◌∷◌, eqb, refl, sym, ap, ◌∙◌, subst, arith}
+use Rattle.std.specs.Prelude.{codes}
+use Rattle.fs_plane.specs.declared.corners.Corner.{Corner}
+use Rattle.fs_job.specs.declared.job.Command.{Command}
+use Rattle.fs_job.specs.declared.job.Command.TheVariants.{Check}
+use Rattle.fs_job.specs.Pieces.{pieces}
+use Rattle.fs_job.specs.Statement.{SpellsNumeral, SpellsCorner, Pair, ArePairs, Statement, Field_line, Polygon_line, Glue_line, Command_line, End_line, Shows, SpellsCommand}
+use Rattle.fs_job.specs.Line.{ShowsField, ShowsGlue}
+use Rattle.fs_job.proofs.Lists.{heads_equal, tails_equal}
+use Rattle.fs_job.proofs.Digits.{unique_numeral, numeral_along}
+use Rattle.fs_job.proofs.Pairs.{same_pairs}
+
+-- ---- corners
+
+pub unique_corner : (text : List ℕ) (c e : Corner) → SpellsCorner text c → SpellsCorner text e → c ≡ e
+unique_corner text c e s t =
+    let whole = sym s.whole ∙ t.whole in
+    let one = heads_equal s.polygon_text t.polygon_text (s.side_text ∷ []) (t.side_text ∷ []) whole in
+    let two = heads_equal s.side_text t.side_text [] [] (tails_equal s.polygon_text t.polygon_text (s.side_text ∷ []) (t.side_text ∷ []) whole) in
+    let polygon = numeral_along 4 s.polygon_text t.polygon_text c.polygon e.polygon one s.polygon t.polygon in
+    let side = numeral_along 4 s.side_text t.side_text c.side e.side two s.side t.side in
+    ap (λ (n : ℕ). record { polygon = n; side = c.side }) polygon ∙ ap (λ (n : ℕ). record { polygon = e.polygon; side = n }) side
+
+pub no_corner : (text : List ℕ) → ((x y : List ℕ) → pieces (λ b. eqb b 46) text ≢ x ∷ y ∷ []) → (c : Corner) → ¬ SpellsCorner text c
+no_corner text none c s = none s.polygon_text s.side_text s.whole
+
+pub no_corner_polygon : (text x y : List ℕ) → pieces (λ b. eqb b 46) text ≡ x ∷ y ∷ [] → ((n : ℕ) → ¬ SpellsNumeral 4 x n) → (c : Corner) → ¬ SpellsCorner text c
+no_corner_polygon text x y e none c s =
+    none c.polygon (subst (λ u. SpellsNumeral 4 u c.polygon) (heads_equal s.polygon_text x (s.side_text ∷ []) (y ∷ []) (sym s.whole ∙ e)) s.polygon)
+
+pub no_corner_side : (text x y : List ℕ) → pieces (λ b. eqb b 46) text ≡ x ∷ y ∷ [] → ((n : ℕ) → ¬ SpellsNumeral 4 y n) → (c : Corner) → ¬ SpellsCorner text c
+no_corner_side text x y e none c s =
+    none c.side (subst (λ u. SpellsNumeral 4 u c.side)
+    (heads_equal s.side_text y [] [] (tails_equal s.polygon_text x (s.side_text ∷ []) (y ∷ []) (sym s.whole ∙ e))) s.side)
+
+-- ---- the words behind the first one
+
+only_one : (word word' : List ℕ) (words : List (List ℕ)) → words ≡ word ∷ [] → words ≡ word' ∷ [] → word ≡ word'
+only_one word word' words e f = heads_equal word word' [] [] (sym e ∙ f)
+
+pub no_digits : (words : List (List ℕ)) (word : List ℕ) → words ≡ word ∷ [] → ((d : ℕ) → ¬ SpellsNumeral 4 word d) → (d : ℕ) → ¬ ShowsField words d
+no_digits words word e none d s = none d (subst (λ u. SpellsNumeral 4 u d) (only_one s.0 word words s.1 e) s.2)
+
+glue_words : (words rest : List (List ℕ)) (word one two : List ℕ) → words ≡ word ∷ rest → words ≡ one ∷ two ∷ [] → (one ≡ word) × (rest ≡ two ∷ [])
+glue_words words rest word one two e f = (heads_equal one word (two ∷ []) rest (sym f ∙ e), sym (tails_equal one word (two ∷ []) rest (sym f ∙ e)))
+
+no_two : (one two : List ℕ) → ◌≢◌ {A = List (List ℕ)} [] (one ∷ two ∷ [])
+no_two one two e = cc
+
+pub no_glue_words : (words : List (List ℕ)) → words ≡ [] → (one two : Corner) → ¬ ShowsGlue words one two
+no_glue_words words e one two s = no_two s.0 s.1 (sym e ∙ s.2)
+
+pub no_glue_second : (words rest : List (List ℕ)) (word : List ℕ) → words ≡ word ∷ rest → ((last : List ℕ) → rest ≢ last ∷ []) → (one two : Corner) → ¬ ShowsGlue words one two
+no_glue_second words rest word e none one two s = none s.1 (glue_words words rest word s.0 s.1 e s.2).1
+
+pub no_glue_one : (words rest : List (List ℕ)) (word : List ℕ) → words ≡ word ∷ rest → ((c : Corner) → ¬ SpellsCorner word c) → (one two : Corner) → ¬ ShowsGlue words one two
+no_glue_one words rest word e none one two s = none one (subst (λ u. SpellsCorner u one) (glue_words words rest word s.0 s.1 e s.2).0 s.3)
+
+pub no_glue_two : (words rest : List (List ℕ)) (word last : List ℕ) → words ≡ word ∷ rest → rest ≡ last ∷ [] → ((c : Corner) → ¬ SpellsCorner last c) → (one two : Corner) → ¬ ShowsGlue words one two
+no_glue_two words rest word last e f none one two s =
+    none two (subst (λ u. SpellsCorner u two) (only_one s.1 last rest (glue_words words rest word s.0 s.1 e s.2).1 f) s.4)
+
+-- ---- the first word tells which statement it is
+
+-- the first word of a statement
+abbrev pub name_of : Statement → List ℕ
+name_of (Field_line d) = codes "field"
+name_of (Polygon_line pairs) = codes "polygon"
+name_of (Glue_line one two) = codes "glue"
+name_of (Command_line Check) = codes "check"
+name_of End_line = codes "end"
+
+-- the words behind it say the rest
+abbrev pub ShowsRest : List (List ℕ) → Statement → Type 0
+ShowsRest rest (Field_line d) = ShowsField rest d
+ShowsRest rest (Polygon_line pairs) = ArePairs rest pairs
+ShowsRest rest (Glue_line one two) = ShowsGlue rest one two
+ShowsRest rest (Command_line command) = rest ≡ []
+ShowsRest rest End_line = rest ≡ []
+
+pub parts : (words : List (List ℕ)) (s : Statement) → Shows words s → (rest : List (List ℕ)) × (words ≡ name_of s ∷ rest) × ShowsRest rest s
+parts words (Field_line d) s = (s.0 ∷ [], s.1, (s.0, refl, s.2))
+parts words (Polygon_line pairs) s = (s.0, s.1, s.2)
+parts words (Glue_line one two) s = (s.0 ∷ s.1 ∷ [], s.2, (s.0, s.1, refl, s.3, s.4))
+parts words (Command_line Check) s = ([], s.4, refl)
+parts words End_line s = ([], s, refl)
+
+-- the words behind a first word that is known
+pub behind : (words rest : List (List ℕ)) (word : List ℕ) → words ≡ word ∷ rest → (s : Statement) → Shows words s → (name_of s ≡ word) × ShowsRest rest s
+behind words rest word e s shows =
+    let p = parts words s shows in
+    let same = sym p.1 ∙ e in
+    (heads_equal (name_of s) word p.0 rest same, subst (λ ws. ShowsRest ws s) (tails_equal (name_of s) word p.0 rest same) p.2)
+
+pub no_words : (words : List (List ℕ)) → words ≡ [] → (s : Statement) → ¬ Shows words s
+no_words words e s shows = some (name_of s) (parts words s shows).0 (sym (parts words s shows).1 ∙ e)
+  where
+    some : (word : List ℕ) (rest : List (List ℕ)) → word ∷ rest ≢ []
+    some word rest f = cc
+
+-- ---- lines whose first word is known, and whose other words aren't right
+
+no_glue_name : (words rest : List (List ℕ)) → ((one two : Corner) → ¬ ShowsGlue rest one two) → (s : Statement) → name_of s ≡ codes "glue" → ShowsRest rest s → ⊥
+no_glue_name words rest none (Field_line d) e shows = absurd (let h = heads_equal 102 103 _ _ e in omega (arith, h))
+no_glue_name words rest none (Polygon_line pairs) e shows = absurd (let h = heads_equal 112 103 _ _ e in omega (arith, h))
+no_glue_name words rest none (Glue_line one two) e shows = none one two shows
+no_glue_name words rest none (Command_line Check) e shows = absurd (let h = heads_equal 99 103 _ _ e in omega (arith, h))
+no_glue_name words rest none End_line e shows = absurd (let h = heads_equal 101 103 _ _ e in omega (arith, h))
+
+no_field_name : (words rest : List (List ℕ)) → ((d : ℕ) → ¬ ShowsField rest d) → (s : Statement) → name_of s ≡ codes "field" → ShowsRest rest s → ⊥
+no_field_name words rest none (Field_line d) e shows = none d shows
+no_field_name words rest none (Polygon_line pairs) e shows = absurd (let h = heads_equal 112 102 _ _ e in omega (arith, h))
+no_field_name words rest none (Glue_line one two) e shows = absurd (let h = heads_equal 103 102 _ _ e in omega (arith, h))
+no_field_name words rest none (Command_line Check) e shows = absurd (let h = heads_equal 99 102 _ _ e in omega (arith, h))
+no_field_name words rest none End_line e shows = absurd (let h = heads_equal 101 102 _ _ e in omega (arith, h))
+
+pub no_glue_line : (words rest : List (List ℕ)) (word : List ℕ) → words ≡ word ∷ rest → word ≡ codes "glue" → ((one two : Corner) → ¬ ShowsGlue rest one two) → (s : Statement) → ¬ Shows words s
+no_glue_line words rest word e named none s shows = let b = behind words rest word e s shows in no_glue_name words rest none s (b.0 ∙ named) b.1
+
+pub no_field_line : (words rest : List (List ℕ)) (word : List ℕ) → words ≡ word ∷ rest → word ≡ codes "field" → ((d : ℕ) → ¬ ShowsField rest d) → (s : Statement) → ¬ Shows words s
+no_field_line words rest word e named none s shows = let b = behind words rest word e s shows in no_field_name words rest none s (b.0 ∙ named) b.1
+
+-- ---- words show one statement at most
+
+-- a number for each kind of statement: the first byte of its name
+abbrev kind : Statement → ℕ
+kind (Field_line d) = 102
+kind (Polygon_line pairs) = 112
+kind (Glue_line one two) = 103
+kind (Command_line Check) = 99
+kind End_line = 101
+
+name_kind : (s : Statement) → (more : List ℕ) × (name_of s ≡ kind s ∷ more)
+name_kind (Field_line d) = (_, refl)
+name_kind (Polygon_line pairs) = (_, refl)
+name_kind (Glue_line one two) = (_, refl)
+name_kind (Command_line Check) = (_, refl)
+name_kind End_line = (_, refl)
+
+same_kind : (s t : Statement) → name_of s ≡ name_of t → kind s ≡ kind t
+same_kind s t e = let a = name_kind s in let b = name_kind t in heads_equal (kind s) (kind t) a.0 b.0 (sym a.1 ∙ (e ∙ b.1))
+
+same_rest : (rest : List (List ℕ)) (s t : Statement) → kind s ≡ kind t → ShowsRest rest s → ShowsRest rest t → s ≡ t
+same_rest rest (Field_line d) (Field_line e) k a b = ap Field_line (unique_numeral 4 a.0 d e a.2 (subst (λ u. SpellsNumeral 4 u e) (only_one b.0 a.0 rest b.1 a.1) b.2))
+same_rest rest (Field_line d) (Polygon_line pairs) k a b = absurd (omega arith)
+same_rest rest (Field_line d) (Glue_line one two) k a b = absurd (omega arith)
+same_rest rest (Field_line d) (Command_line Check) k a b = absurd (omega arith)
+same_rest rest (Field_line d) End_line k a b = absurd (omega arith)
+same_rest rest (Polygon_line pairs) (Field_line e) k a b = absurd (omega arith)
+same_rest rest (Polygon_line pairs) (Polygon_line others) k a b = ap Polygon_line (same_pairs rest pairs others a b)
+same_rest rest (Polygon_line pairs) (Glue_line one two) k a b = absurd (omega arith)
+same_rest rest (Polygon_line pairs) (Command_line Check) k a b = absurd (omega arith)
+same_rest rest (Polygon_line pairs) End_line k a b = absurd (omega arith)
+same_rest rest (Glue_line one two) (Field_line e) k a b = absurd (omega arith)
+same_rest rest (Glue_line one two) (Polygon_line pairs) k a b = absurd (omega arith)
+same_rest rest (Glue_line one two) (Glue_line three four) k a b =
+    let words = glue_words rest (a.1 ∷ []) a.0 b.0 b.1 a.2 b.2 in
+    let second = heads_equal b.1 a.1 [] [] (sym words.1) in
+    let first_same = unique_corner a.0 one three a.3 (subst (λ u. SpellsCorner u three) words.0 b.3) in
+    let second_same = unique_corner a.1 two four a.4 (subst (λ u. SpellsCorner u four) second b.4) in
+    ap (λ (c : Corner). Glue_line c two) first_same ∙ ap (λ (c : Corner). Glue_line three c) second_same
+same_rest rest (Glue_line one two) (Command_line Check) k a b = absurd (omega arith)
+same_rest rest (Glue_line one two) End_line k a b = absurd (omega arith)
+same_rest rest (Command_line Check) (Field_line e) k a b = absurd (omega arith)
+same_rest rest (Command_line Check) (Polygon_line pairs) k a b = absurd (omega arith)
+same_rest rest (Command_line Check) (Glue_line one two) k a b = absurd (omega arith)
+same_rest rest (Command_line Check) (Command_line Check) k a b = refl
+same_rest rest (Command_line Check) End_line k a b = absurd (omega arith)
+same_rest rest End_line (Field_line e) k a b = absurd (omega arith)
+same_rest rest End_line (Polygon_line pairs) k a b = absurd (omega arith)
+same_rest rest End_line (Glue_line one two) k a b = absurd (omega arith)
+same_rest rest End_line (Command_line Check) k a b = absurd (omega arith)
+same_rest rest End_line End_line k a b = refl
+
+pub same_statement : (words : List (List ℕ)) (s t : Statement) → Shows words s → Shows words t → s ≡ t
+same_statement words s t a b =
+    let p = parts words s a in
+    let q = behind words p.0 (name_of s) p.1 t b in
+    same_rest p.0 s t (same_kind s t (sym q.0)) p.2 q.1

@@ -1,0 +1,9 @@
+use Rattle.std.proofs.Common.{sym, ◌∙◌, arith}
+use Rattle.fs_job.specs.Stage.{drafted}
+use Rattle.fs_job.proofs.Lists.{not_empty}
+use Rattle.fs_job.proofs.Drafting.{adds_command}
+use Rattle.fs_job.proofs.drafts.add_command.Goals as goal
+
+pub returns : goal.returns
+returns c = adds_command c.args.number (drafted c.args.draft) c.args.command c.push.new.self
+    (not_empty c.args.draft.shape.polygons (sym c.is_empty.ensures ∙ c.if-is_empty.false)) (let len = c.len.ensures in omega arith) c.in_ok-push.ensures.ok

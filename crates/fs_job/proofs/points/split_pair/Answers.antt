@@ -1,0 +1,9 @@
+use Rattle.std.proofs.Common.{sym, ap, ◌∙◌}
+use denote.Ref.{Bor}
+use Rattle.fs_job.proofs.Read.{halves}
+use Rattle.fs_job.proofs.points.split_pair.Goals as goal
+
+pub returns : goal.returns
+returns c =
+    let h = halves c.args.word _ c.cut.result c.cut.ensures c.requires in
+    rw c.unwrap_or.ensures (record { x = h.0; y = h.1 })

@@ -1,0 +1,50 @@
+ghost use Rattle.std.specs.Prelude.{◌≡◌, ◌≤◌, length, sum_by};
+
+use crate::job::{Command, Form, Job};
+use fs_gluing::{Sequence, Shape};
+use fs_quadratic::Field;
+use std::alloc::Global;
+
+// What the lines of a job said so far. It counts the sides.
+#[derive(Drop)]
+pub struct DraftJob {
+    pub field: Field,
+    pub shape: Shape,
+    pub commands: Sequence<Command>,
+    pub sides: usize,
+    ghost counted: { sides ≡ sum_by length shape.polygons },
+    ghost few_sides: { sides ≤ 1024 },
+    ghost few_polygons: { length shape.polygons ≤ 256 },
+}
+
+impl DraftJob {
+    ghost use Rattle.std.specs.Prelude.{[]};
+    ghost use Rattle.fs_job.specs.Stage.{drafted};
+    ghost use Rattle.fs_job.specs.Reading.{described};
+
+    // A job of this field, without polygons.
+    pub fn new(alloc: Global, field: Field) -> DraftJob
+        ensures { drafted result ≡ record { d = field.d; polygons = []; glues = []; commands = [] } }
+    {
+        DraftJob {
+            field,
+            shape: Shape {
+                polygons: Sequence::new(alloc),
+                glues: Sequence::new(alloc),
+            },
+            commands: Sequence::new(alloc),
+            sides: 0,
+        }
+    }
+
+    // The job, to which nothing is added any more.
+    pub fn into_job(self) -> Job
+        ensures { described result ≡ drafted self }
+    {
+        Job {
+            field: self.field,
+            form: Form::Polygons(self.shape),
+            commands: self.commands,
+        }
+    }
+}

@@ -1,0 +1,85 @@
+ghost use Rattle.std.specs.Prelude.{◌≡◌, ◌≢◌, ◌<◌, ◌≤◌, ◌↔◌, ℕ, List, [], ◌∷◌, ◌++◌, true, false, IsTrue, MatchOption, length};
+ghost use Rattle.std.specs.List.{AllByRecursion};
+ghost use Rattle.fs_job.specs.Pieces.{is_blank, words_of, IsTextByte, IsText};
+ghost use Rattle.fs_job.specs.Cuts.{Begins};
+
+// A tab, or a byte from the space to the tilde.
+fn is_text_byte(byte: u8) -> bool
+    ensures { IsTrue result ↔ IsTextByte byte }
+{
+    byte == b'\t' || (b' '..=b'~').contains(&byte)
+}
+
+// Whether each byte of a line is one that a line may have.
+pub fn is_text(line: &[u8]) -> bool
+    ensures { IsTrue result ↔ IsText line.now }
+{
+    for byte in line {
+        if !is_text_byte(*byte) {
+            return false;
+        }
+    }
+    true
+}
+
+// A space or a tab.
+fn is_blank(byte: u8) -> bool
+    ensures { result ≡ is_blank byte }
+{
+    byte == b' ' || byte == b'\t'
+}
+
+// What follows the spaces and tabs that a text begins with.
+fn skip_blanks(text: &[u8]) -> &[u8]
+    ensures words { words_of text.now ≡ words_of result.now }
+    ensures begins { Begins (λ b. is_blank b ≡ false) result.now }
+    ensures shorter { length result.now ≤ length text.now }
+{
+    for (i, byte) in text.iter().enumerate() {
+        if !is_blank(*byte) {
+            return &text[i..];
+        }
+    }
+    &[]
+}
+
+// The text up to the first space or tab, and what follows.
+fn split_word(text: &[u8]) -> (&[u8], &[u8])
+    ensures whole { text.now ≡ result.0.now ++ result.1.now }
+    ensures word { AllByRecursion (λ b. is_blank b ≡ false) result.0.now }
+    ensures rest { Begins (λ b. is_blank b ≡ true) result.1.now }
+{
+    for (i, byte) in text.iter().enumerate() {
+        if is_blank(*byte) {
+            return text.split_at(i);
+        }
+    }
+    (text, &[])
+}
+
+// The first word of a text, and what follows it.
+pub fn next_word(text: &[u8]) -> Option<(&[u8], &[u8])>
+    ensures { MatchOption result
+        (words_of text.now ≡ [])
+        (λ parts. (words_of text.now ≡ parts.0.now ∷ words_of parts.1.now) × (length parts.1.now < length text.now)) }
+{
+    let text = skip_blanks(text);
+    if text.is_empty() {
+        None
+    } else {
+        Some(split_word(text))
+    }
+}
+
+// The word of a text that has exactly one.
+pub fn only_word(text: &[u8]) -> Option<&[u8]>
+    ensures { MatchOption result
+        ((word : List ℕ) → words_of text.now ≢ word ∷ [])
+        (λ word. words_of text.now ≡ word.now ∷ []) }
+{
+    let (word, rest) = next_word(text)?;
+    match next_word(rest) {
+        Some(_) => None,
+        None => Some(word),
+    }
+}
