@@ -1,6 +1,0 @@
-use Rattle.std.proofs.Common.{◌≡◌, length, take, sum_by}
-use Rattle.fs_cli.proofs.run.count_sides.Given as goal
-
--- the sides of the polygons so far
-abbrev pub invariant-loop-i : goal.invariant-loop-i
-invariant-loop-i l = l.sides ≡ sum_by length (take l.i l.surface.polygons)
