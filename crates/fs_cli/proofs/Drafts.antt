@@ -6,13 +6,11 @@ use Rattle.std.proofs.lemmas.List.Sums.{sum_by-append}
 use Rattle.fs_quadratic.proofs.Firsts.{All-append, All-front, All-back}
 use Rattle.fs_quadratic.specs.Radicand.{IsRadicand}
 use Rattle.fs_fraction.proofs.Lowest.{reduced-positive}
-use Rattle.fs_fraction.specs.declared.number.NumberFault.{NumberFault}
 use Rattle.fs_fraction.specs.Fraction.{Fraction}
-use Rattle.fs_fraction.specs.Number.{Reads, number, too_wide, undefined, foreign, Written, Rational, Root, Both, IsDefined, over_value, under_value, under_runs, value}
+use Rattle.fs_fraction.specs.Number.{Reads, number, too_wide, undefined, foreign as unspelled, Written, Rational, Root, Both, IsDefined, over_value, under_value, under_runs, value}
 use Rattle.fs_gluing.specs.declared.faults.Fault.{Fault}
 use Rattle.fs_gluing.specs.declared.shapes.Point.{Point}
-use Rattle.fs_job.specs.Grammar.{Draft, Progress, Nothing, Headed, Drafted, Ended, draft_of, MayCome, HasRoom, MakesSense, ArePoints, Adds, Outcome, Next, Faulty, Leads, Path, ReadsJob}
-use Rattle.fs_job.specs.Grammar.Leads as leads
+use Rattle.fs_job.specs.Grammar.{Draft, Progress, Nothing, Headed, Drafted, Ended, draft_of, MayCome, HasRoom, MakesSense, ArePoints, Adds, Next, Faulty, Leads, foreign, blank, headed, unheaded, misplaced, crowded, unread, senseless, taken, Path, ReadsJob}
 use Rattle.fs_job.specs.Pieces.{lines_of}
 use Rattle.fs_job.specs.Statement.{Pair, Statement, Field_line, Polygon_line, Glue_line, Command_line, End_line}
 
@@ -45,7 +43,7 @@ reads_positive : (text : List ℕ) (x : Fraction) → Reads text (Ok x) → 0 < 
 reads_positive text x (number w spells narrow defined is) = subst (λ (y : Fraction). 0 < y.den) (sym (same_value x (value w) is)) (value_positive w defined)
 reads_positive text x (too_wide w spells wide is) = absurd (no_value x _ is)
 reads_positive text x (undefined w spells narrow not is) = absurd (no_value x _ is)
-reads_positive text x (foreign none is) = absurd (no_value x _ is)
+reads_positive text x (unspelled none is) = absurd (no_value x _ is)
 
 -- both denominators are above 0
 abbrev pub HasDenominators : Point → Type 0
@@ -113,15 +111,15 @@ no_next : (a : Progress) (fault : Fault) → Next a ≡ Faulty fault → ⊥
 no_next a fault e = cc
 
 leads_known : (n : ℕ) (before : Progress) (line : List ℕ) (after : Progress) → Known before → Leads n before line (Next after) → Known after
-leads_known n before line after known (leads.foreign not e) = absurd (no_next after _ e)
-leads_known n before line after known (leads.blank text none e) = subst Known (sym (same_next after _ e)) known
-leads_known n before line after known (leads.headed text first header e) = subst Known (sym (same_next after _ e)) tt
-leads_known n before line after known (leads.unheaded text first some other e) = absurd (no_next after _ e)
-leads_known n before line after known (leads.misplaced text later some none e) = absurd (no_next after _ e)
-leads_known n before line after known (leads.crowded s text shows may full e) = absurd (no_next after _ e)
-leads_known n before line after known (leads.unread s fault text shows may room first e) = absurd (no_next after _ e)
-leads_known n before line after known (leads.senseless s text shows may room read not e) = absurd (no_next after _ e)
-leads_known n before line after known (leads.taken s next text shows may room sense adds e) =
+leads_known n before line after known (foreign not e) = absurd (no_next after _ e)
+leads_known n before line after known (blank text none e) = subst Known (sym (same_next after _ e)) known
+leads_known n before line after known (headed text first header e) = subst Known (sym (same_next after _ e)) tt
+leads_known n before line after known (unheaded text first some other e) = absurd (no_next after _ e)
+leads_known n before line after known (misplaced text later some none e) = absurd (no_next after _ e)
+leads_known n before line after known (crowded s text shows may full e) = absurd (no_next after _ e)
+leads_known n before line after known (unread s fault text shows may room first e) = absurd (no_next after _ e)
+leads_known n before line after known (senseless s text shows may room read not e) = absurd (no_next after _ e)
+leads_known n before line after known (taken s next text shows may room sense adds e) =
     subst Known (sym (same_next after next e)) (adds_known n before s next known may room sense adds)
 
 path_known : (n : ℕ) (before : Progress) (lines : List (List ℕ)) (after : Progress) → Known before → Path n before lines after → Known after

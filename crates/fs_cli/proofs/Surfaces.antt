@@ -1,5 +1,6 @@
 -- There is a surface of each job whose shape passes all tests.
-use Rattle.std.proofs.Common.{◌≡◌, ◌≢◌, ℕ, ◌+◌, ◌<◌, ◌≤◌, ℤ, pos, ◌<ℤ◌, Option, Some, None, Ok, cond, List, [], ◌∷◌, ◌++◌, length, map, refl, sym, ap, ◌∙◌, subst, arith, append-nil, append_assoc}
+use Rattle.std.proofs.Common.{◌≢◌, ℕ, ◌+◌, ◌<◌, ℤ, pos, ◌<ℤ◌, Option, Some, None, cond, List, [], ◌∷◌, ◌++◌, length, map, refl, sym, subst, arith, append-nil, append_assoc}
+use Rattle.std.proofs.lemmas.Int.{ints}
 use Rattle.std.specs.BTreeMap.{is_at}
 use Rattle.std.specs.Option.{IsSome}
 use Rattle.std.specs.List.{AllByRecursion, Contains, range_with_len}
@@ -13,7 +14,7 @@ use Rattle.fs_gluing.specs.declared.shapes.Glue.{Glue}
 use Rattle.fs_gluing.specs.declared.shapes.Point.{Point}
 use Rattle.fs_gluing.specs.declared.shapes.Shape.{Shape}
 use Rattle.fs_gluing.specs.declared.surfaces.Side.{Side}
-use Rattle.fs_gluing.specs.FirstFault.{Test, Scale, Line, Glued, Reached, Passes, PassesOf, PassesLine, Joins, tests, tests_of, tests_from, line_tests, Judges}
+use Rattle.fs_gluing.specs.FirstFault.{Test, Scale, Line, Glued, Reached, PassesOf, PassesLine, Joins, tests, tests_of, tests_from, line_tests}
 use Rattle.fs_gluing.specs.Gluing.{ArePartners, corner_cmp, glued_rows}
 use Rattle.fs_gluing.specs.Polygons.{all_sides}
 use Rattle.fs_gluing.specs.Reached.{IsReached}
@@ -23,7 +24,7 @@ use Rattle.fs_gluing.specs.Surface.{GluedPolygons, IsSurface, AreNeighbours}
 use Rattle.fs_gluing.proofs.Checks.{All-weaker}
 use Rattle.fs_gluing.proofs.Glued.{IsPaired, rows_length, joined_neighbours}
 use Rattle.fs_gluing.proofs.Judged.{IsScaled, is_scaled, passed_on, built}
-use Rattle.fs_gluing.proofs.Pairs.{Puts, partners_more, listed_has_partner}
+use Rattle.fs_gluing.proofs.Pairs.{partners_more, listed_has_partner}
 use Rattle.fs_job.specs.Grammar.{Draft, ReadsJob}
 use Rattle.fs_cli.specs.Answer.{shape_of}
 use Rattle.fs_cli.proofs.Drafts.{HasDenominators, job_known}
@@ -57,6 +58,9 @@ common_within m (s ∷ sides) w a = common_within (common_multiple (common_multi
 
 one_within : InWidth (pos 1)
 one_within = (omega arith, omega arith)
+
+positive : (n : ℕ) → 0 < n → pos 0 <ℤ pos n
+positive n h = omega (arith, ints)
 
 -- ---- the partners of the sides
 
@@ -123,7 +127,7 @@ module _ (d : ℕ) (shape : Shape) (passed : AllByRecursion (PassesOf d shape) (
   scaled points =
       let some = common_positive 1 (placed shape.polygons) (omega arith) (all_placed 0 shape.polygons points) in
       let commons = All-front PassesScale (common_tests 1 (placed shape.polygons)) (part_tests (common_den shape.polygons) (placed shape.polygons)) scales in
-      is_scaled shape (pos (common_den shape.polygons)) polygons scales refl refl (omega arith) (common_within 1 (placed shape.polygons) one_within commons)
+      is_scaled shape (pos (common_den shape.polygons)) polygons scales refl refl (positive (common_den shape.polygons) some) (common_within 1 (placed shape.polygons) one_within commons)
 
   module _ (p : Corner → Option Corner) (partners : ArePartners glues p) where
     paired : IsPaired d polygons glues p

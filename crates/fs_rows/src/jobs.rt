@@ -60,11 +60,31 @@ fn faulty_lines(rt: HostRuntime) -> Result<(), Fail> {
         (3, "polygon 1, 0,1\n", "refused 4 BadNumber line 3\n"),
         (3, "polygon +1,0\n", "refused 4 BadNumber line 3\n"),
         (3, "polygon 1/00,0\n", "refused 4 BadNumber line 3\n"),
-        (3, "polygon 1,1234567890123456789x\n", "refused 4 BadNumber line 3\n"),
-        (3, "polygon x,1234567890123456789\n", "refused 4 BadNumber line 3\n"),
-        (3, "polygon 1234567890123456789,x\n", "refused 9 Wide line 3\n"),
-        (3, "polygon 1/0000000000000000000,0\n", "refused 9 Wide line 3\n"),
-        (3, "polygon 0,0000000000000000001\n", "refused 9 Wide line 3\n"),
+        (
+            3,
+            "polygon 1,1234567890123456789x\n",
+            "refused 4 BadNumber line 3\n",
+        ),
+        (
+            3,
+            "polygon x,1234567890123456789\n",
+            "refused 4 BadNumber line 3\n",
+        ),
+        (
+            3,
+            "polygon 1234567890123456789,x\n",
+            "refused 9 Wide line 3\n",
+        ),
+        (
+            3,
+            "polygon 1/0000000000000000000,0\n",
+            "refused 9 Wide line 3\n",
+        ),
+        (
+            3,
+            "polygon 0,0000000000000000001\n",
+            "refused 9 Wide line 3\n",
+        ),
         (3, "polygon 1,0\r\r\n", "refused 1 NotAscii line 3\n"),
         (4, "glue 0.0\n", "refused 3 BadLine line 4\n"),
         (4, "glue 0.0 0.2 0.1\n", "refused 3 BadLine line 4\n"),
@@ -113,12 +133,42 @@ fn commands(rt: HostRuntime) -> Result<(), Fail> {
 fn too_many(rt: HostRuntime) -> Result<(), Fail> {
     for (number, text, times, last, answer) in [
         (6, "check\n", 257, "", "refused 6 TooMany line 262\n"),
-        (6, "check\n", 256, "check 1\n", "refused 3 BadLine line 262\n"),
+        (
+            6,
+            "check\n",
+            256,
+            "check 1\n",
+            "refused 3 BadLine line 262\n",
+        ),
         (3, "polygon\n", 257, "", "refused 6 TooMany line 259\n"),
-        (3, "polygon\n", 256, "polygon x,0\n", "refused 6 TooMany line 259\n"),
-        (3, "polygon\n", 256, "polygon 0\n", "refused 3 BadLine line 259\n"),
-        (3, "polygon 1,0 1,0 1,0 1,0\n", 256, "", "refused 11 NotClosed 0\n"),
-        (3, "polygon 1,0 1,0 1,0 1,0 1,0\n", 205, "", "refused 6 TooMany line 207\n"),
+        (
+            3,
+            "polygon\n",
+            256,
+            "polygon x,0\n",
+            "refused 6 TooMany line 259\n",
+        ),
+        (
+            3,
+            "polygon\n",
+            256,
+            "polygon 0\n",
+            "refused 3 BadLine line 259\n",
+        ),
+        (
+            3,
+            "polygon 1,0 1,0 1,0 1,0\n",
+            256,
+            "",
+            "refused 11 NotClosed 0\n",
+        ),
+        (
+            3,
+            "polygon 1,0 1,0 1,0 1,0 1,0\n",
+            205,
+            "",
+            "refused 6 TooMany line 207\n",
+        ),
     ] {
         let mut changed = repeated(rt.alloc(), text, times)?;
         changed.push_str(last)?;
