@@ -1,0 +1,6 @@
+// The vertices of a surface, their cone angles, and the genus.
+#![tactic(auto)]
+
+mod cones;
+
+pub use cones::{Cone, classes, genus};
