@@ -13,6 +13,7 @@ use Rattle.fs_quadratic.proofs.Signs.{sign-positive, sign-negative, sign-zero, s
 use Rattle.fs_plane.specs.declared.vector.V2.{V2}
 use Rattle.fs_plane.specs.Vector.{vector_of, vector_neg, cross, is_upper, upper_by_signs, is_raised, raised_by_signs}
 use Rattle.fs_gluing.specs.Convex.{Bend, TurnsLeft, is_rise}
+use Rattle.fs_stratum.proofs.Lists.{one_if}
 use Rattle.fs_stratum.proofs.Turns as turns
 
 -- ---- a left turn by the signs of y and of x, before and after
@@ -25,9 +26,6 @@ pub record IsLeftTurn (bv bh av ah : Ordering) : Type 0 where
   pub to_west : av ≡ Equal → ah ≡ Less → bv ≡ Greater
   pub to_zero : av ≡ Equal → ah ≡ Equal → ⊥
 
--- 1 where the test passes
-abbrev pub one_if : Bool → ℕ
-one_if b = cond b 1 0
 
 -- it is along (1,0)
 abbrev pub east_by_signs : Ordering → Ordering → Bool

@@ -2,5 +2,6 @@
 #![tactic(auto)]
 
 mod cones;
+mod marks;
 
 pub use cones::{Cone, classes, genus};
