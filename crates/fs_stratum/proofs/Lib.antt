@@ -5,3 +5,6 @@ pub mod Sides
 pub mod Orbits
 pub mod Counts
 pub mod Rays
+pub mod Positive
+pub mod Rounds
+pub mod Blank

@@ -97,7 +97,7 @@ rays s surface c h =
     }
 
 -- the ray along the side that begins there is raised
-abbrev raised_or : ℕ → Option Side → Bool
+abbrev pub raised_or : ℕ → Option Side → Bool
 raised_or d None = false
 raised_or d (Some side) = is_raised d side.vector
 
