@@ -1,15 +1,16 @@
 -- Marks that are set one by one, of which at first none is.
-use Rattle.std.proofs.Common.{◌≡◌, ◌≢◌, ◌⊎◌, inl, inr, ℕ, zero, suc, ◌+◌, ◌<◌, Bool, true, false, Option, Some, None, List, [], ◌∷◌, ◌++◌, length, map, set, get_or, replicate, unwrap_or, sym, ap, ◌∙◌, refl, subst, arith}
+use Rattle.std.proofs.Common.{◌≡◌, ◌≢◌, ◌⊎◌, inl, inr, ℕ, zero, suc, ◌+◌, ◌<◌, ◌≤◌, Bool, true, false, Option, Some, None, List, [], ◌∷◌, ◌++◌, length, map, set, get_or, replicate, take, unwrap_or, sym, ap, ◌∙◌, refl, subst, arith}
 use Rattle.std.proofs.lemmas.Bool.{cases_eq}
-use Rattle.std.proofs.lemmas.Option.{same_Some, slice_get-map, slice_get-get_or}
-use Rattle.std.proofs.lemmas.List.{length-map, map-set}
-use Rattle.std.specs.Option.{IsSome, option_and_then, option_map}
+use Rattle.std.proofs.lemmas.Option.{same_Some, slice_get-map, slice_get-get_or, get_or_from_slice_get}
+use Rattle.std.proofs.lemmas.List.{length-map, map-set, map-append, take_more, take_all}
+use Rattle.std.specs.Option.{IsSome, IfSome, option_and_then, option_map}
 use Rattle.std.specs.List.{slice_get}
 use Rattle.fs_plane.specs.declared.corners.Corner.{Corner}
 use Rattle.fs_gluing.specs.Polygons.{at_side, HasSide}
 use Rattle.fs_gluing.proofs.Corners.{StandsIn, stands_in}
 use Rattle.fs_stratum.specs.Marks.{is_marked, Covers, AreUnmarked, MarksCorner}
-use Rattle.fs_stratum.proofs.Sides.{corner_eq}
+use Rattle.fs_stratum.proofs.Sides.{corner_eq, some_of_inside}
+use Rattle.fs_stratum.proofs.Rays.{value_of}
 
 -- a row of marks for each polygon, none of which is set
 abbrev pub blank : {X : Type 0} → List (List X) → List (List Bool)
@@ -55,7 +56,7 @@ slice_get-set_other (x ∷ xs) zero (suc k) v n = refl
 slice_get-set_other (x ∷ xs) (suc i) zero v n = refl
 slice_get-set_other (x ∷ xs) (suc i) (suc k) v n = slice_get-set_other xs i k v (λ e. n (ap (λ m. suc m) e))
 
-within_by : {X : Type 0} (xs : List X) (k : ℕ) (x : X) → slice_get xs k ≡ Some x → k < length xs
+pub within_by : {X : Type 0} (xs : List X) (k : ℕ) (x : X) → slice_get xs k ≡ Some x → k < length xs
 within_by [] k x e = cc
 within_by (y ∷ xs) zero x e = omega arith
 within_by (y ∷ xs) (suc k) x e = let l = within_by xs k x e in omega arith
@@ -114,3 +115,22 @@ module _ {W : Type 0} (items : W → List Bool) (rows : List W) (old : List (Lis
       subst (MarksCorner c old)
       (sym (map-set items rows c.polygon row' ∙ ap (λ m. set m c.polygon (items row')) view ∙ ap (set old c.polygon) is))
       (set_mark old c (items row) row_at row_inside)
+
+-- a row is added
+pub blank_more : {X W : Type 0} (items : W → List Bool) (rows longer : List W) (row : W) (polygons : List (List X)) (i n : ℕ) → map items rows ≡ blank (take i polygons) → i < length polygons
+    → IfSome (slice_get polygons i) (λ polygon. n ≡ length polygon) → items row ≡ replicate n false → longer ≡ rows ++ row ∷ [] → map items longer ≡ blank (take (i + 1) polygons)
+blank_more {X} items rows longer row polygons i n before l is row_is longer_is =
+    let r = value_of (slice_get polygons i) (some_of_inside polygons i l) in
+    let long : n ≡ length r.value = subst (λ o. IfSome o (λ (polygon : List X). n ≡ length polygon)) r.is is in
+    let here : get_or polygons i r.value ≡ r.value = get_or_from_slice_get polygons i r.value r.value r.is in
+    let row_blank : items row ≡ replicate (length r.value) false = row_is ∙ ap (λ m. replicate m false) long in
+    let left : map items longer ≡ map items rows ++ items row ∷ [] = ap (map items) longer_is ∙ map-append items rows (row ∷ []) in
+    let right : blank (take (i + 1) polygons) ≡ blank (take i polygons) ++ replicate (length r.value) false ∷ [] =
+        ap blank (take_more polygons i r.value l ∙ ap (λ (p : List X). take i polygons ++ p ∷ []) here) ∙ map-append (λ (polygon : List X). replicate (length polygon) false) (take i polygons) (r.value ∷ []) in
+    left ∙ (λ k. before k ++ row_blank k ∷ []) ∙ sym right
+
+pub blank_none : {X W : Type 0} (items : W → List Bool) (rows : List W) (polygons : List (List X)) → rows ≡ [] → map items rows ≡ blank (take 0 polygons)
+blank_none items rows polygons e = ap (map items) e
+
+pub blank_all : {X W : Type 0} (items : W → List Bool) (rows : List W) (polygons : List (List X)) (n : ℕ) → map items rows ≡ blank (take n polygons) → length polygons ≤ n → AreUnmarked polygons (map items rows)
+blank_all items rows polygons n e l = subst (AreUnmarked polygons) (sym (e ∙ ap blank (take_all n polygons l))) (blank_unmarked polygons)

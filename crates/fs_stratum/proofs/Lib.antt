@@ -8,3 +8,4 @@ pub mod Rays
 pub mod Positive
 pub mod Rounds
 pub mod Blank
+pub mod Found

@@ -78,7 +78,7 @@ pub record Rounds (s : GluedPolygons) (first : Corner) (old now : List (List Boo
   pub start : IsTrue (is_marked now first) ⊎ (first ≡ c)
   pub count : IsCount (λ e. (IsTrue (is_marked now e) × AreOneVertex s.polygons first e) × HoldsEast s e) (all_sides s.polygons) k
 
-not_both : {b : Bool} → b ≡ true → b ≡ false → ⊥
+pub not_both : {b : Bool} → b ≡ true → b ≡ false → ⊥
 not_both e f = let both : true ≡ false = sym e ∙ f in cc
 
 module _ (s : GluedPolygons) (first : Corner) (old : List (List Bool)) (fresh : (e : Corner) → AreOneVertex s.polygons first e → is_marked old e ≡ false) where

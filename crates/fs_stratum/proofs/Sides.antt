@@ -51,7 +51,7 @@ inside_of_some [] j h = cc
 inside_of_some (x ∷ xs) zero h = omega arith
 inside_of_some (x ∷ xs) (suc j) h = let l = inside_of_some xs j h in omega arith
 
-some_of_inside : {X : Type 0} (xs : List X) (j : ℕ) → j < length xs → IsSome (slice_get xs j)
+pub some_of_inside : {X : Type 0} (xs : List X) (j : ℕ) → j < length xs → IsSome (slice_get xs j)
 some_of_inside [] j l = absurd (omega arith)
 some_of_inside (x ∷ xs) zero l = refl
 some_of_inside (x ∷ xs) (suc j) l = some_of_inside xs j (omega arith)
