@@ -111,6 +111,9 @@ module _ (s : GluedPolygons) where
     total = count_none _ (all_sides s.polygons) (λ e i p. not_both p.0 (u.none e));
   }
 
+  pub found_same : (c : Corner) {marks more : List (List Bool)} {cones others : List Cone} → more ≡ marks → others ≡ cones → AreFoundBefore s c marks cones → AreFoundBefore s c more others
+  found_same c {marks} {more} {cones} {others} e f found = subst (λ x. AreFoundBefore s c more x) (sym f) (subst (λ x. AreFoundBefore s c x cones) (sym e) found)
+
   pub found_seen : (i j : ℕ) (marks : List (List Bool)) (cones : List Cone) → AreFoundBefore s (corner i j) marks cones → is_marked marks (corner i j) ≡ true → AreFoundBefore s (corner i (j + 1)) marks cones
   found_seen i j marks cones f seen = record {
     covers = f.covers;

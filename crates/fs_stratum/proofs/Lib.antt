@@ -9,3 +9,4 @@ pub mod Positive
 pub mod Rounds
 pub mod Blank
 pub mod Found
+pub mod Sums

@@ -43,7 +43,7 @@ bend_at P b [] j e a all h k = cc
 bend_at P b (s ∷ sides) zero e a all h k = subst (λ x. P (record { before = x; after = a })) (same_Some b e k) (subst (λ x. P (record { before = b; after = x })) (same_Some s a h) all.0)
 bend_at P b (s ∷ sides) (suc j) e a all h k = bend_at P s sides j e a all.1 h k
 
-abbrev before : ℕ → ℕ → ℕ
+abbrev pub before : ℕ → ℕ → ℕ
 before n k = if k == 0 then n - 1 else k - 1
 
 pub before_zero : (n k : ℕ) → k ≡ 0 → before n k ≡ n - 1
@@ -55,7 +55,7 @@ before_suc n k = grind (arith, nat_tests)
 vector_at : (polygon : List Side) (j : ℕ) (side : Side) → slice_get polygon j ≡ Some side → slice_get (side_vectors polygon) j ≡ Some side.vector
 vector_at polygon j side e = slice_get-map (λ (s : Side). s.vector) polygon j ∙ ap (option_map (λ (s : Side). s.vector)) e
 
-last_is : (polygon : List Side) (side : Side) → slice_get polygon (length polygon - 1) ≡ Some side → last_side (side_vectors polygon) ≡ side.vector
+pub last_is : (polygon : List Side) (side : Side) → slice_get polygon (length polygon - 1) ≡ Some side → last_side (side_vectors polygon) ≡ side.vector
 last_is polygon side e =
     sym (last_side_is (side_vectors polygon))
     ∙ ap (λ n. unwrap_or (slice_get (side_vectors polygon) (n - 1)) vector_zero) (length-map polygon (λ (s : Side). s.vector))

@@ -1,8 +1,7 @@
 ghost use Rattle.std.specs.Prelude.{◌≡◌, ◌+◌, ◌<◌, ℕ, List, IfOk, OnOk, length, false};
 ghost use Rattle.fs_plane.specs.declared.corners.Corner.{Corner};
 ghost use Rattle.fs_gluing.specs.Polygons.{HasSide};
-ghost use Rattle.fs_gluing.specs.Surface.{GluedPolygons};
-ghost use Rattle.fs_gluing.specs.Turning.{side_count};
+ghost use Rattle.fs_gluing.specs.Surface.{GluedPolygons, IsSurface};
 ghost use Rattle.fs_gluing.specs.Vertices.{AreOneVertex, IsConeNumber};
 ghost use Rattle.fs_stratum.specs.Cones.{AreCones, HasGenus};
 ghost use Rattle.fs_stratum.specs.Found.{AreFoundBefore};
@@ -44,6 +43,7 @@ fn add_cones(
     marks: &mut Marks,
     cones: &mut Sequence<Cone>,
 ) -> Result<(), AllocError>
+    requires surface { IsSurface surface.now }
     requires there { i < length surface.now.polygons }
     requires before { AreFoundBefore surface.now (record { polygon = i; side = 0 }) marks.old cones.old }
     ensures { OnOk result (AreFoundBefore surface.now (record { polygon = i + 1; side = 0 }) marks.new cones.new) }
