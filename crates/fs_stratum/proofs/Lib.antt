@@ -10,3 +10,5 @@ pub mod Rounds
 pub mod Blank
 pub mod Found
 pub mod Sums
+pub mod Halves
+pub mod EulerSum
