@@ -1,5 +1,5 @@
 -- A map taken many times: on a finite list a permutation returns, so that its cycles are classes, and it can be decided which items are of one.
-use Rattle.std.proofs.Common.{◌≡◌, ◌≢◌, ℕ, zero, suc, ◌+◌, ◌*◌, ◌/◌, ◌%◌, ◌<◌, ◌≤◌, ◌⊎◌, List, [], ◌∷◌, length, refl, sym, ap, ◌∙◌, subst, inl, inr, arith, zero-add, suc-add, zero-mul, suc-mul, div-add-mod', mod-lt, zero-lt-suc}
+use Rattle.std.proofs.Common.{◌≡◌, ◌≢◌, ℕ, zero, suc, ◌+◌, ◌*◌, ◌/◌, ◌%◌, ◌<◌, ◌⊎◌, List, [], ◌∷◌, length, refl, sym, ap, ◌∙◌, subst, inl, inr, arith, zero-add, suc-add, zero-mul, suc-mul, div-add-mod', mod-lt, zero-lt-suc}
 use Rattle.fs_cycles.specs.Cycles.{IsIn, AreApart, Permutes, iterate, LeadsTo, IsDecidable}
 use Rattle.fs_cycles.proofs.Members.{at_most_partners}
 

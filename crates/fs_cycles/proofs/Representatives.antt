@@ -1,6 +1,6 @@
 -- Every permutation of a finite list has a list that represents its cycles, and all such lists are equally long.
-use Rattle.std.proofs.Common.{◌≡◌, ◌≢◌, ℕ, zero, suc, ◌+◌, ◌<◌, ◌≤◌, ◌⊎◌, List, [], ◌∷◌, length, refl, sym, ap, ◌∙◌, subst, inl, inr, arith}
-use Rattle.fs_cycles.specs.Cycles.{IsIn, AreApart, Permutes, Represents, iterate, LeadsTo, IsDecidable}
+use Rattle.std.proofs.Common.{◌≡◌, ◌≤◌, ◌⊎◌, List, [], ◌∷◌, length, refl, sym, subst, inl, inr, arith}
+use Rattle.fs_cycles.specs.Cycles.{IsIn, AreApart, Permutes, Represents, LeadsTo, IsDecidable}
 use Rattle.fs_cycles.proofs.Members.{at_most_partners}
 use Rattle.fs_cycles.proofs.Iterates.{leads_refl, leads_trans, leads_symm, decide_leads}
 

@@ -31,6 +31,13 @@ module _ {X : Type 0} where
     pub back : (x : X) → IsIn x xs → s (s x) ≡ x
     pub moved : (x : X) → IsIn x xs → s x ≢ x
 
+  -- a permutation f, a joining s in pairs, and h, which is f followed by s
+  pub record FollowedByPairs (f s h : X → X) (xs : List X) : Type 0 where
+    pub distinct : IsDistinct xs
+    pub permutes : Permutes f xs
+    pub pairs : Pairs s xs
+    pub followed : (x : X) → IsIn x xs → h x ≡ s (f x)
+
   -- f taken n times
   abbrev pub iterate : (X → X) → ℕ → X → X
   iterate f zero x = x
