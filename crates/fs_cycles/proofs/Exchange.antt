@@ -161,23 +161,23 @@ module _ {X : Type 0} (decide : IsDecidable X) {xs : List X} (a b : X) (apart : 
           near_end x c (inl k) = near_after (g x) (iterate g n (g x)) c k
           near_end x c (inr d) = d.1
 
-      module _ (reps : List X) (R : Represents f xs reps) where
-        abbrev rep_a : (r : X) × IsIn r reps × LeadsTo f r a
-        rep_a = R.each a ha
+      module _ (chosen : List X) (R : Represents f xs chosen) where
+        abbrev first_chosen : (r : X) × IsIn r chosen × LeadsTo f r a
+        first_chosen = R.each a ha
 
-        abbrev rep_b : (r : X) × IsIn r reps × LeadsTo f r b
-        rep_b = R.each b hb
+        abbrev second_chosen : (r : X) × IsIn r chosen × LeadsTo f r b
+        second_chosen = R.each b hb
 
         abbrev others : List X
-        others = without rep_b.0 reps rep_b.1
+        others = without second_chosen.0 chosen second_chosen.1
 
         not_near_b : (x : X) → IsIn x others → ¬ LeadsTo f b x
         not_near_b x m k =
-            apart_from (LeadsTo f) rep_b.0 reps rep_b.1 x (λ u v hu hv. leads_symm decide P u v (R.there u hu)) R.apart m
-            (leads_trans f rep_b.0 b x rep_b.2 k)
+            apart_from (LeadsTo f) second_chosen.0 chosen second_chosen.1 x (λ u v hu hv. leads_symm decide P u v (R.there u hu)) R.apart m
+            (leads_trans f second_chosen.0 b x second_chosen.2 k)
 
         there_others : (x : X) → IsIn x others → IsIn x xs
-        there_others x m = R.there x (in_without rep_b.0 reps rep_b.1 x m)
+        there_others x m = R.there x (in_without second_chosen.0 chosen second_chosen.1 x m)
 
         near_both : (x y : X) → IsIn x others → IsIn y others → IsNear x → IsNear y → LeadsTo f x y
         near_both x y m n (inl k) (inl l) = leads_trans f x a y (leads_symm decide P a x ha k) l
@@ -191,30 +191,30 @@ module _ {X : Type 0} (decide : IsDecidable X) {xs : List X} (a b : X) (apart : 
               | inr c ↦ near_both x y m n c.0 c.1
             ]
 
-        a_in_others : IsIn rep_a.0 others
-        a_in_others =
-            elim (without_or rep_b.0 reps rep_b.1 rep_a.0 rep_a.1) [
+        first_in_others : IsIn first_chosen.0 others
+        first_in_others =
+            elim (without_or second_chosen.0 chosen second_chosen.1 first_chosen.0 first_chosen.1) [
               | inl e ↦
                   absurd (away (
-                  leads_trans f a rep_a.0 b
-                  (leads_symm decide P rep_a.0 a (R.there rep_a.0 rep_a.1) rep_a.2)
-                  (subst (λ w. LeadsTo f w b) (sym e) rep_b.2)
+                  leads_trans f a first_chosen.0 b
+                  (leads_symm decide P first_chosen.0 a (R.there first_chosen.0 first_chosen.1) first_chosen.2)
+                  (subst (λ w. LeadsTo f w b) (sym e) second_chosen.2)
                   ))
               | inr m ↦ m
             ]
 
-        a_to_rep_b : LeadsTo g rep_a.0 rep_b.0
-        a_to_rep_b =
-            leads_trans g rep_a.0 a rep_b.0
-            (still rep_a.0 a (R.there rep_a.0 rep_a.1) rep_a.2)
-            (leads_trans g a b rep_b.0 leads (still b rep_b.0 hb (leads_symm decide P rep_b.0 b (R.there rep_b.0 rep_b.1) rep_b.2)))
+        first_to_second : LeadsTo g first_chosen.0 second_chosen.0
+        first_to_second =
+            leads_trans g first_chosen.0 a second_chosen.0
+            (still first_chosen.0 a (R.there first_chosen.0 first_chosen.1) first_chosen.2)
+            (leads_trans g a b second_chosen.0 leads (still b second_chosen.0 hb (leads_symm decide P second_chosen.0 b (R.there second_chosen.0 second_chosen.1) second_chosen.2)))
 
         each_other : (x : X) → IsIn x xs → (r : X) × IsIn r others × LeadsTo g r x
         each_other x h =
             let r = R.each x h in
             let goes = still r.0 x (R.there r.0 r.1) r.2 in
-            elim (without_or rep_b.0 reps rep_b.1 r.0 r.1) [
-              | inl e ↦ (rep_a.0, a_in_others, leads_trans g rep_a.0 rep_b.0 x a_to_rep_b (subst (λ w. LeadsTo g w x) e goes))
+            elim (without_or second_chosen.0 chosen second_chosen.1 r.0 r.1) [
+              | inl e ↦ (first_chosen.0, first_in_others, leads_trans g first_chosen.0 second_chosen.0 x first_to_second (subst (λ w. LeadsTo g w x) e goes))
               | inr m ↦ (r.0, m, goes)
             ]
 
@@ -224,20 +224,20 @@ module _ {X : Type 0} (decide : IsDecidable X) {xs : List X} (a b : X) (apart : 
               there = there_others;
               each = each_other;
               apart =
-                  apart_by (LeadsTo f) (LeadsTo g) others was_joined (apart_without (LeadsTo f) rep_b.0 reps rep_b.1 R.apart);
+                  apart_by (LeadsTo f) (LeadsTo g) others was_joined (apart_without (LeadsTo f) second_chosen.0 chosen second_chosen.1 R.apart);
             }
 
-      joined : (reps less : List X) → Represents f xs reps → Represents g xs less → length reps ≡ suc (length less)
-      joined reps less R S =
-          length-without (rep_b reps R).0 reps (rep_b reps R).1
-          ∙ ap suc (same_length decide Q (others reps R) less (others_represent reps R) S)
+      joined : (chosen less : List X) → Represents f xs chosen → Represents g xs less → length chosen ≡ suc (length less)
+      joined chosen less R S =
+          length-without (second_chosen chosen R).0 chosen (second_chosen chosen R).1
+          ∙ ap suc (same_length decide Q (others chosen R) less (others_represent chosen R) S)
 
   -- representatives after an exchange: one more, or one fewer
   pub exchanged : {f g : X → X} → Permutes f xs → Permutes g xs → IsExchanged f g a b xs → IsIn a xs → IsIn b xs
-      → (reps others : List X) → Represents f xs reps → Represents g xs others
-      → (length reps ≡ suc (length others)) ⊎ (length others ≡ suc (length reps))
-  exchanged P Q E ha hb reps others R S =
+      → (chosen others : List X) → Represents f xs chosen → Represents g xs others
+      → (length chosen ≡ suc (length others)) ⊎ (length others ≡ suc (length chosen))
+  exchanged P Q E ha hb chosen others R S =
       elim (parted P Q E ha hb) [
-        | inl h ↦ inl (joined P Q E ha hb h.0 h.1 reps others R S)
-        | inr h ↦ inr (joined Q P (back E) ha hb h.0 h.1 others reps S R)
+        | inl h ↦ inl (joined P Q E ha hb h.0 h.1 chosen others R S)
+        | inr h ↦ inr (joined Q P (back E) ha hb h.0 h.1 others chosen S R)
       ]

@@ -77,6 +77,12 @@ module _ {X : Type 0} (f : X → X) where
   in_trail (suc n) x y (inl e) = (0, omega arith, e)
   in_trail (suc n) x y (inr h) = let r = in_trail n (f x) y h in (suc r.0, omega (arith, r.1), r.2)
 
+module _ {X : Type 0} where
+  -- a map that another undoes
+  pub permutes_undone : (f g : X → X) (xs : List X) → ((x : X) → IsIn x xs → IsIn (f x) xs) → ((x : X) → IsIn x xs → g (f x) ≡ x) → Permutes f xs
+  permutes_undone f g xs inside undone =
+      record { inside = inside; one_to_one = λ x y h k e. sym (undone x h) ∙ ap g e ∙ undone y k }
+
 module _ {X : Type 0} {f : X → X} {xs : List X} (P : Permutes f xs) where
   pub iterate_in : (n : ℕ) (x : X) → IsIn x xs → IsIn (iterate f n x) xs
   iterate_in zero x h = h

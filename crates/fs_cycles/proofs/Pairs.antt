@@ -30,12 +30,12 @@ module _ {X : Type 0} {f g : X → X} {xs : List X} (same : (x : X) → IsIn x x
   leads_same_back : Permutes f xs → (x y : X) → IsIn x xs → LeadsTo g x y → LeadsTo f x y
   leads_same_back P x y h k = (k.0, sym (iterate_same P k.0 x h) ∙ k.1)
 
-  pub represents_same : Permutes f xs → (reps : List X) → Represents f xs reps → Represents g xs reps
-  represents_same P reps R =
+  pub represents_same : Permutes f xs → (chosen : List X) → Represents f xs chosen → Represents g xs chosen
+  represents_same P chosen R =
       record {
         there = R.there;
         each = λ x h. let r = R.each x h in (r.0, r.1, leads_same P r.0 x (R.there r.0 r.1) r.2);
-        apart = apart_by (LeadsTo f) (LeadsTo g) reps (λ u v hu hv. leads_same_back P u v (R.there u hu)) R.apart;
+        apart = apart_by (LeadsTo f) (LeadsTo g) chosen (λ u v hu hv. leads_same_back P u v (R.there u hu)) R.apart;
       }
 
 -- the two items of a pair
@@ -112,7 +112,7 @@ module _ {X : Type 0} (decide : IsDecidable X) where
             P.one_to_one x y h k (sym (exchange_twice a b (f x)) ∙ ap (exchange a b) e ∙ exchange_twice a b (f y));
       }
 
-  -- lemma A in words of `exchange`
+  -- what `exchange` makes of f is f with a and b exchanged after it
   pub is_exchanged : (f : X → X) (xs : List X) (a b : X) → IsExchanged f (λ x. exchange a b (f x)) a b xs
   is_exchanged f xs a b =
       record {
@@ -120,6 +120,13 @@ module _ {X : Type 0} (decide : IsDecidable X) where
         second = λ x h e. ap (exchange a b) e ∙ exchange_second a b;
         other = λ x h. exchange_other a b (f x);
       }
+
+  -- f followed by an exchange has one cycle more, or one fewer
+  pub exchange_cycles : (f : X → X) (xs : List X) (a b : X) → a ≢ b → IsIn a xs → IsIn b xs → Permutes f xs → (chosen others : List X)
+      → Represents f xs chosen → Represents (λ x. exchange a b (f x)) xs others
+      → (length chosen ≡ suc (length others)) ⊎ (length others ≡ suc (length chosen))
+  exchange_cycles f xs a b apart ha hb P =
+      exchanged decide a b apart P (permutes_exchange f xs a b ha hb P) (is_exchanged f xs a b) ha hb
 
   -- ---- many exchanges
 
@@ -139,17 +146,16 @@ module _ {X : Type 0} (decide : IsDecidable X) where
       permutes_exchange (λ x. exchanges ps (f x)) xs p.one p.two o.0.0 o.0.1 (permutes_exchanges f xs ps o.1 P)
 
   exchanges_even : (f : X → X) (xs : List X) (ps : List (Pair X)) → AreOf xs ps → Permutes f xs
-      → (reps others : List X) → Represents f xs reps → Represents (λ x. exchanges ps (f x)) xs others
-      → (m : ℕ) × (length reps + length others + length ps ≡ 2 * m)
-  exchanges_even f xs [] o P reps others R S =
-      (length reps, omega (arith, same_length decide P reps others R S))
-  exchanges_even f xs (p ∷ ps) o P reps others R S =
+      → (chosen others : List X) → Represents f xs chosen → Represents (λ x. exchanges ps (f x)) xs others
+      → (m : ℕ) × (length chosen + length others + length ps ≡ 2 * m)
+  exchanges_even f xs [] o P chosen others R S =
+      (length chosen, omega (arith, same_length decide P chosen others R S))
+  exchanges_even f xs (p ∷ ps) o P chosen others R S =
       let Q = permutes_exchanges f xs ps o.1 P in
       let between = representatives decide Q in
-      let before = exchanges_even f xs ps o.1 P reps between.0 R between.1 in
-      let sum : length reps + length between.0 + length ps ≡ 2 * before.0 = before.1 in
-      elim (exchanged decide p.one p.two o.0.2 Q (permutes_exchange (λ x. exchanges ps (f x)) xs p.one p.two o.0.0 o.0.1 Q)
-      (is_exchanged (λ x. exchanges ps (f x)) xs p.one p.two) o.0.0 o.0.1 between.0 others between.1 S) [
+      let before = exchanges_even f xs ps o.1 P chosen between.0 R between.1 in
+      let sum : length chosen + length between.0 + length ps ≡ 2 * before.0 = before.1 in
+      elim (exchange_cycles (λ x. exchanges ps (f x)) xs p.one p.two o.0.2 o.0.0 o.0.1 Q between.0 others between.1 S) [
         | inl e ↦ (before.0, omega (arith, e))
         | inr e ↦ (suc before.0, omega (arith, e))
       ]
@@ -247,6 +253,10 @@ module _ {X : Type 0} (decide : IsDecidable X) where
       let smaller = made n (fewer a rest D P) (omega (arith, length-without _ rest (partner_in a rest D P))) (fewer_distinct a rest D P) (fewer_pairs a rest D P) in
       (_, made_more a rest D P smaller.0 smaller.1)
 
+  -- the items that are joined in pairs are even in number
+  pub half_of_pairs : {s : X → X} {xs : List X} → IsDistinct xs → Pairs s xs → (e : ℕ) × (2 * e ≡ length xs)
+  half_of_pairs {s} {xs} D P = let M = made (length xs) xs (omega arith) D P in (length M.0, M.1.half)
+
   -- what is followed by pairs permutes the items too
   pub permutes_followed : {f s h : X → X} {xs : List X} → FollowedByPairs f s h xs → Permutes h xs
   permutes_followed {f} {s} {h} {xs} F =
@@ -259,13 +269,13 @@ module _ {X : Type 0} (decide : IsDecidable X) where
       })
 
   -- f followed by a joining in e pairs: the cycles before, the cycles after and the pairs are even in number together
-  pub even_with_pairs : {f s h : X → X} {xs : List X} (reps others : List X) (e : ℕ)
-      → FollowedByPairs f s h xs → Represents f xs reps → Represents h xs others → 2 * e ≡ length xs
-      → (m : ℕ) × (length reps + length others + e ≡ 2 * m)
-  even_with_pairs {f} {s} {h} {xs} reps others e F R S pairs =
+  pub even_with_pairs : {f s h : X → X} {xs : List X} (chosen others : List X) (e : ℕ)
+      → FollowedByPairs f s h xs → Represents f xs chosen → Represents h xs others → 2 * e ≡ length xs
+      → (m : ℕ) × (length chosen + length others + e ≡ 2 * m)
+  even_with_pairs {f} {s} {h} {xs} chosen others e F R S pairs =
       let M = made (length xs) xs (omega arith) F.distinct F.pairs in
       let to : (x : X) → IsIn x xs → exchanges M.0 (f x) ≡ h x =
       λ x m. M.1.on (f x) (F.permutes.inside x m) ∙ sym (F.followed x m) in
       let even =
-      exchanges_even f xs M.0 M.1.of_items F.permutes reps others R (represents_same to (permutes_followed F) others S) in
+      exchanges_even f xs M.0 M.1.of_items F.permutes chosen others R (represents_same to (permutes_followed F) others S) in
       (even.0, omega (arith, M.1.half, even.1))

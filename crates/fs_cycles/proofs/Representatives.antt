@@ -18,13 +18,13 @@ module _ {X : Type 0} {f : X → X} {xs : List X} (decide : IsDecidable X) (P : 
             ]
       ]
 
-  -- reps stands for the cycles that meet ys
-  record Covers (ys reps : List X) : Type 0 where
-    there : (r : X) → IsIn r reps → IsIn r ys
-    each : (x : X) → IsIn x ys → (r : X) × IsIn r reps × LeadsTo f r x
-    apart : AreApart (LeadsTo f) reps
+  -- chosen stands for the cycles that meet ys
+  record Covers (ys chosen : List X) : Type 0 where
+    there : (r : X) → IsIn r chosen → IsIn r ys
+    each : (x : X) → IsIn x ys → (r : X) × IsIn r chosen × LeadsTo f r x
+    apart : AreApart (LeadsTo f) chosen
 
-  covers : (ys : List X) → ((y : X) → IsIn y ys → IsIn y xs) → (reps : List X) × Covers ys reps
+  covers : (ys : List X) → ((y : X) → IsIn y ys → IsIn y xs) → (chosen : List X) × Covers ys chosen
   covers [] among = ([], record { there = λ r m. m; each = λ x m. absurd m; apart = tt })
   covers (y ∷ ys) among =
       let rest = covers ys (λ z m. among z (inr m)) in
@@ -56,18 +56,18 @@ module _ {X : Type 0} {f : X → X} {xs : List X} (decide : IsDecidable X) (P : 
         )
       ]
 
-  pub representatives : (reps : List X) × Represents f xs reps
+  pub representatives : (chosen : List X) × Represents f xs chosen
   representatives =
       let r = covers xs (λ y m. m) in
       (r.0, record { there = r.1.there; each = r.1.each; apart = r.1.apart })
 
-  at_most_representatives : (reps others : List X) → Represents f xs reps → Represents f xs others → length reps ≤ length others
-  at_most_representatives reps others R S =
-      at_most_partners (LeadsTo f) (λ x y. IsIn y xs × LeadsTo f y x) reps others
+  at_most_representatives : (chosen others : List X) → Represents f xs chosen → Represents f xs others → length chosen ≤ length others
+  at_most_representatives chosen others R S =
+      at_most_partners (LeadsTo f) (λ x y. IsIn y xs × LeadsTo f y x) chosen others
       (λ x m. let r = S.each x (R.there x m) in (r.0, r.1, (S.there r.0 r.1, r.2)))
       (λ x w y m n p q. leads_trans f x y w (leads_symm decide P y x p.0 p.1) q.1)
       R.apart
 
   -- any two lists that represent the cycles are equally long
-  pub same_length : (reps others : List X) → Represents f xs reps → Represents f xs others → length reps ≡ length others
-  same_length reps others R S = omega (arith, at_most_representatives reps others R S, at_most_representatives others reps S R)
+  pub same_length : (chosen others : List X) → Represents f xs chosen → Represents f xs others → length chosen ≡ length others
+  same_length chosen others R S = omega (arith, at_most_representatives chosen others R S, at_most_representatives others chosen S R)

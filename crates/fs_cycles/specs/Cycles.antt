@@ -48,7 +48,7 @@ module _ {X : Type 0} where
   LeadsTo f x y = (n : ℕ) × (iterate f n x ≡ y)
 
   -- the list holds one item of each cycle of f
-  pub record Represents (f : X → X) (xs reps : List X) : Type 0 where
-    pub there : (r : X) → IsIn r reps → IsIn r xs
-    pub each : (x : X) → IsIn x xs → (r : X) × IsIn r reps × LeadsTo f r x
-    pub apart : AreApart (LeadsTo f) reps
+  pub record Represents (f : X → X) (xs chosen : List X) : Type 0 where
+    pub there : (r : X) → IsIn r chosen → IsIn r xs
+    pub each : (x : X) → IsIn x xs → (r : X) × IsIn r chosen × LeadsTo f r x
+    pub apart : AreApart (LeadsTo f) chosen
