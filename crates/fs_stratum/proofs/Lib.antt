@@ -12,3 +12,4 @@ pub mod Found
 pub mod Sums
 pub mod Halves
 pub mod EulerSum
+pub mod Parity
