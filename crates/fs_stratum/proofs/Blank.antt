@@ -1,5 +1,5 @@
 -- Marks that are set one by one, of which at first none is.
-use Rattle.std.proofs.Common.{◌≡◌, ◌≢◌, ◌⊎◌, inl, inr, ℕ, zero, suc, ◌+◌, ◌<◌, ◌≤◌, Bool, true, false, Option, Some, None, List, [], ◌∷◌, ◌++◌, length, map, set, get_or, replicate, take, unwrap_or, sym, ap, ◌∙◌, refl, subst, arith}
+use Rattle.std.proofs.Common.{◌≡◌, inl, inr, ℕ, zero, suc, ◌+◌, ◌<◌, ◌≤◌, Bool, true, false, Some, List, [], ◌∷◌, ◌++◌, length, map, set, get_or, replicate, take, unwrap_or, sym, ap, ◌∙◌, refl, subst, arith}
 use Rattle.std.proofs.lemmas.Bool.{cases_eq}
 use Rattle.std.proofs.lemmas.Option.{same_Some, slice_get-map, slice_get-get_or, get_or_from_slice_get}
 use Rattle.std.proofs.lemmas.List.{length-map, map-set, map-append, take_more, take_all}
@@ -7,8 +7,8 @@ use Rattle.std.specs.Option.{IsSome, IfSome, option_and_then, option_map}
 use Rattle.std.specs.List.{slice_get}
 use Rattle.fs_plane.specs.declared.corners.Corner.{Corner}
 use Rattle.fs_gluing.specs.Polygons.{at_side, HasSide}
-use Rattle.fs_gluing.proofs.Corners.{StandsIn, stands_in}
-use Rattle.fs_stratum.specs.Marks.{is_marked, Covers, AreUnmarked, MarksCorner}
+use Rattle.fs_gluing.proofs.Corners.{stands_in}
+use Rattle.fs_stratum.specs.Marks.{is_marked, AreUnmarked, MarksCorner}
 use Rattle.fs_stratum.proofs.Sides.{corner_eq, some_of_inside}
 use Rattle.fs_stratum.proofs.Rays.{value_of}
 
@@ -84,10 +84,12 @@ module _ (marks : List (List Bool)) (c : Corner) (row : List Bool) (is : slice_g
 
   pub set_mark : MarksCorner c marks new
   set_mark = record {
-    covers = record { each = λ e h. elim (cases_eq e.polygon c.polygon) [
-      | inl same ↦ subst IsSome (sym (at_row e same)) (some_set row c.side e.side true (subst IsSome (old_row e same) h))
-      | inr apart ↦ subst IsSome (sym (at_other e apart)) h
-    ] };
+    covers = record {
+      each = λ e h. elim (cases_eq e.polygon c.polygon) [
+        | inl same ↦ subst IsSome (sym (at_row e same)) (some_set row c.side e.side true (subst IsSome (old_row e same) h))
+        | inr apart ↦ subst IsSome (sym (at_other e apart)) h
+      ];
+    };
     here = ap (λ o. unwrap_or o false) (at_row c refl ∙ slice_get-set_same row c.side true inside);
     others = λ e n. ap (λ o. unwrap_or o false) (elim (cases_eq e.polygon c.polygon) [
       | inl same ↦ at_row e same ∙ slice_get-set_other row c.side e.side true (λ f. n (corner_eq same f)) ∙ sym (old_row e same)
@@ -126,7 +128,7 @@ blank_more {X} items rows longer row polygons i n before l is row_is longer_is =
     let row_blank : items row ≡ replicate (length r.value) false = row_is ∙ ap (λ m. replicate m false) long in
     let left : map items longer ≡ map items rows ++ items row ∷ [] = ap (map items) longer_is ∙ map-append items rows (row ∷ []) in
     let right : blank (take (i + 1) polygons) ≡ blank (take i polygons) ++ replicate (length r.value) false ∷ [] =
-        ap blank (take_more polygons i r.value l ∙ ap (λ (p : List X). take i polygons ++ p ∷ []) here) ∙ map-append (λ (polygon : List X). replicate (length polygon) false) (take i polygons) (r.value ∷ []) in
+    ap blank (take_more polygons i r.value l ∙ ap (λ (p : List X). take i polygons ++ p ∷ []) here) ∙ map-append (λ (polygon : List X). replicate (length polygon) false) (take i polygons) (r.value ∷ []) in
     left ∙ (λ k. before k ++ row_blank k ∷ []) ∙ sym right
 
 pub blank_none : {X W : Type 0} (items : W → List Bool) (rows : List W) (polygons : List (List X)) → rows ≡ [] → map items rows ≡ blank (take 0 polygons)

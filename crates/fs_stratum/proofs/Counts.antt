@@ -1,5 +1,5 @@
 -- How many corners of a list have what is asked.
-use Rattle.std.proofs.Common.{◌≡◌, ◌⊎◌, inl, inr, ℕ, zero, suc, ◌+◌, ◌≤◌, Bool, true, false, cond, List, [], ◌∷◌, length, sym, ap, ◌∙◌, refl, subst, arith}
+use Rattle.std.proofs.Common.{◌≡◌, ◌⊎◌, inl, inr, ℕ, suc, ◌+◌, ◌≤◌, Bool, true, List, [], ◌∷◌, length, sym, ap, ◌∙◌, refl, subst, arith}
 use Rattle.std.proofs.lemmas.Bool.{cases_Bool}
 use Rattle.fs_plane.specs.declared.corners.Corner.{Corner}
 use Rattle.fs_gluing.specs.Vertices.{IsCount}
@@ -70,15 +70,15 @@ pub count-tally : (P : Corner → Type 0) (q : Corner → Bool) (xs : List Corne
 count-tally P q [] k f g h = h
 count-tally P q (x ∷ xs) k f g h = elim h [
   | inl a ↦
-    let rest = count-tally P q xs a.1.0 (λ c i. f c (inr i)) (λ c i. g c (inr i)) a.1.2 in
-    let here : one_if (q x) ≡ 1 = ap one_if (f x (inl refl) a.0) in
-    let e = a.1.1 in
-    omega arith
+      let rest = count-tally P q xs a.1.0 (λ c i. f c (inr i)) (λ c i. g c (inr i)) a.1.2 in
+      let here : one_if (q x) ≡ 1 = ap one_if (f x (inl refl) a.0) in
+      let e = a.1.1 in
+      omega arith
   | inr b ↦ elim (cases_Bool (q x)) [
     | inl e ↦ absurd (b.0 (g x (inl refl) e))
     | inr e ↦
-      let rest = count-tally P q xs k (λ c i. f c (inr i)) (λ c i. g c (inr i)) b.1 in
-      let here : one_if (q x) ≡ 0 = ap one_if e in
-      omega arith
+        let rest = count-tally P q xs k (λ c i. f c (inr i)) (λ c i. g c (inr i)) b.1 in
+        let here : one_if (q x) ≡ 0 = ap one_if e in
+        omega arith
   ]
 ]

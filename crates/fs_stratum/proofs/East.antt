@@ -1,18 +1,18 @@
 -- Which corners of a polygon hold (1,0), by the signs of the sides before and after them.
-use Rattle.std.proofs.Common.{◌≡◌, ◌≢◌, ℕ, ◌+◌, Bool, true, false, cond, not, ◌&&◌, refl, sym, ap, ◌∙◌, arith}
-use Rattle.std.specs.Ordering.{is_lt, is_gt, ordering_reverse}
+use Rattle.std.proofs.Common.{◌≡◌, ℕ, ◌+◌, Bool, true, false, not, ◌&&◌, refl, ◌∙◌}
+use Rattle.std.specs.Ordering.{is_gt, ordering_reverse}
 use Rattle.std.specs.declared.cmp.Ordering.{Ordering}
 use Rattle.std.specs.declared.cmp.Ordering.TheVariants.{Less, Equal, Greater}
 use Rattle.fs_ring.specs.Vector.{unit_vector}
 use Rattle.fs_ring.specs.Direction.{InSector, at_start, inside}
 use Rattle.fs_quadratic.specs.Radicand.{IsRadicand}
-use Rattle.fs_quadratic.specs.Ring.{Quadratic, zero as nil, neg, quadratic, IsPositive, sign}
-use Rattle.fs_quadratic.proofs.Laws.{quadratic_ring, field_order}
+use Rattle.fs_quadratic.specs.Ring.{zero as nil, quadratic, IsPositive, sign}
+use Rattle.fs_quadratic.proofs.Laws.{field_order}
 use Rattle.fs_quadratic.proofs.SquareRoot.{radicand_no_square}
 use Rattle.fs_quadratic.proofs.Signs.{sign-positive, sign-negative, sign-zero, sign-neg, positive_of_sign, zero_of_sign, negative_of_sign}
 use Rattle.fs_plane.specs.declared.vector.V2.{V2}
 use Rattle.fs_plane.specs.Vector.{vector_of, vector_neg, cross, is_upper, upper_by_signs, is_raised, raised_by_signs}
-use Rattle.fs_gluing.specs.Convex.{Bend, TurnsLeft, is_rise}
+use Rattle.fs_gluing.specs.Convex.{is_rise}
 use Rattle.fs_stratum.proofs.Lists.{one_if}
 use Rattle.fs_stratum.proofs.Turns as turns
 
@@ -25,7 +25,6 @@ pub record IsLeftTurn (bv bh av ah : Ordering) : Type 0 where
   pub to_east : av ≡ Equal → ah ≡ Greater → bv ≡ Less
   pub to_west : av ≡ Equal → ah ≡ Less → bv ≡ Greater
   pub to_zero : av ≡ Equal → ah ≡ Equal → ⊥
-
 
 -- it is along (1,0)
 abbrev pub east_by_signs : Ordering → Ordering → Bool

@@ -1,5 +1,5 @@
 -- The genus from the cone numbers, where vertices, polygons and pairs of sides are even in number together.
-use Rattle.std.proofs.Common.{◌≡◌, ℕ, ◌+◌, ◌*◌, ◌-◌, ◌≤◌, List, [], ◌∷◌, length, sum_by, sym, ap, ◌∙◌, refl, arith}
+use Rattle.std.proofs.Common.{◌≡◌, ℕ, ◌+◌, ◌*◌, ◌-◌, ◌≤◌, List, [], ◌∷◌, length, sum_by, ◌∙◌, arith}
 use Rattle.std.proofs.lemmas.List.Sums.{sum_by-cons}
 use Rattle.std.specs.List.{AllByRecursion}
 use Rattle.fs_gluing.specs.Polygons.{all_sides}
@@ -31,5 +31,5 @@ pub has_genus : (s : GluedPolygons) → IsSurface s → (cones : List Cone) → 
     → AreEvenTogether s cones → (g : ℕ) × HasGenus s cones g
 has_genus s surface cones positive total even =
     let r = genus_from (length cones) (sum_by (λ (cone : Cone). cone.k) cones) (length s.polygons) (tally (low_at s.d s.polygons) (all_sides s.polygons)) (sum_by length s.polygons) even.0
-        (at_least cones positive) (held-half s surface _ total) (low-half s surface ∙ length-all_sides s.polygons) even.1 in
+    (at_least cones positive) (held-half s surface _ total) (low-half s surface ∙ length-all_sides s.polygons) even.1 in
     (r.0, record { positive = positive; sum = r.1; genus = r.2 })

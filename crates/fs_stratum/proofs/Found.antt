@@ -1,9 +1,8 @@
 -- The vertices by their least corners, as the corners are gone through in their order.
-use Rattle.std.proofs.Common.{◌≡◌, ◌⊎◌, inl, inr, ℕ, zero, suc, ◌+◌, ◌<◌, ◌≤◌, Bool, true, false, Option, Some, None, List, [], ◌∷◌, ◌++◌, length, map, sum_by, sym, ap, ◌∙◌, refl, subst, arith}
+use Rattle.std.proofs.Common.{◌≡◌, ◌⊎◌, inl, inr, ℕ, ◌+◌, ◌<◌, ◌≤◌, Bool, true, false, List, [], ◌∷◌, ◌++◌, length, map, sum_by, sym, ap, ◌∙◌, refl, subst, arith}
 use Rattle.std.proofs.lemmas.Bool.{cases_eq, cases_order, cases_Bool}
 use Rattle.std.proofs.lemmas.List.Elements.{Contains-append_left, Contains-push, Contains-push_cases}
 use Rattle.std.proofs.lemmas.List.Sums.{sum_by_push}
-use Rattle.std.proofs.lemmas.Option.{same_Some}
 use Rattle.std.specs.Bool.{IsTrue}
 use Rattle.std.specs.Cmp.{nat_cmp_is}
 use Rattle.std.specs.Ordering.{nat_cmp, ordering_then}
@@ -19,10 +18,10 @@ use Rattle.fs_gluing.specs.Gluing.{corner_cmp}
 use Rattle.fs_gluing.specs.Polygons.{HasSide, all_sides}
 use Rattle.fs_gluing.specs.Surface.{GluedPolygons, IsSurface}
 use Rattle.fs_gluing.specs.Vertices.{AreOneVertex, HoldsEast, IsCount, IsConeNumber}
-use Rattle.fs_gluing.proofs.Corners.{StandsIn, stands_in}
+use Rattle.fs_gluing.proofs.Corners.{stands_in}
 use Rattle.fs_stratum.specs.declared.cones.Cone.{Cone}
 use Rattle.fs_stratum.specs.Cones.{IsCone, AreAscending, AreCones}
-use Rattle.fs_stratum.specs.Marks.{is_marked, Covers, AreUnmarked, MarksVertex}
+use Rattle.fs_stratum.specs.Marks.{is_marked, AreUnmarked, MarksVertex}
 use Rattle.fs_stratum.specs.Found.{AreFoundBefore}
 use Rattle.fs_stratum.proofs.Blank.{within_by}
 use Rattle.fs_stratum.proofs.Sides.{corner, corner_eq, some_of_inside, all_sides_in}
@@ -138,10 +137,10 @@ module _ (s : GluedPolygons) where
     passed = λ e has h. f.passed e has (less_of e (corner i n) (elim (of_less e (corner (i + 1) 0) h) [
       | inl l ↦ elim (cases_eq e.polygon i) [
         | inl same ↦
-          let st = stands_in s.polygons e has in
-          let long : n ≡ length st.polygon = subst (λ o. IfSome o (λ (polygon : List Side). n ≡ length polygon)) (ap (slice_get s.polygons) (sym same) ∙ st.is) is in
-          let inside = st.inside in
-          inr (same, omega arith)
+            let st = stands_in s.polygons e has in
+            let long : n ≡ length st.polygon = subst (λ o. IfSome o (λ (polygon : List Side). n ≡ length polygon)) (ap (slice_get s.polygons) (sym same) ∙ st.is) is in
+            let inside = st.inside in
+            inr (same, omega arith)
         | inr apart ↦ inl (omega arith)
       ]
       | inr k ↦ let l = k.1 in absurd (omega arith)
@@ -160,8 +159,8 @@ module _ (s : GluedPolygons) where
         → is_marked marks c ≡ false → (e : Corner) → AreOneVertex s.polygons c e → is_marked marks e ≡ false
     fresh_of_unmarked c marks cones has marked free e o = elim (cases_Bool (is_marked marks e)) [
       | inl h ↦
-        let found = (marked e).0 h in
-        absurd (not_both ((marked c).1 (found.0, found.1, one_vertex_trans s.polygons found.0.first e c found.2 (one_vertex_comm s.polygons surface.glued c e has o))) free)
+          let found = (marked e).0 h in
+          absurd (not_both ((marked c).1 (found.0, found.1, one_vertex_trans s.polygons found.0.first e c found.2 (one_vertex_comm s.polygons surface.glued c e has o))) free)
       | inr h ↦ h
     ]
 
@@ -174,12 +173,14 @@ module _ (s : GluedPolygons) where
         let kept : (e : Corner) → IsTrue (is_marked marks e) → IsTrue (is_marked more e) = λ e h. (m.marked e).1 (inl h) in
         record {
           covers = m.covers;
-          each = All-append (IsCone s) cones (cone ∷ []) f.each
-              (record {
-                there = has;
-                least = λ e o l. not_both (f.passed e (has_one_vertex s.polygons surface.glued c e has o) l) (fresh e o);
-                number = number;
-              }, tt);
+          each = All-append (IsCone s) cones (cone ∷ []) f.each (
+            record {
+              there = has;
+              least = λ e o l. not_both (f.passed e (has_one_vertex s.polygons surface.glued c e has o) l) (fresh e o);
+              number = number;
+            },
+            tt,
+          );
           positive = All-append (λ c. 1 ≤ c.k) cones (cone ∷ []) f.positive (cone_number_positive s surface c k has number, tt);
           ascending = ascending_push cones cone f.ascending f.earlier;
           earlier = All-append (λ x. corner_cmp x.first (corner i (j + 1)) ≡ Less) cones (cone ∷ [])

@@ -1,21 +1,20 @@
 -- Partners are opposite: of a surface's sides as many are raised as not.
-use Rattle.std.proofs.Common.{◌≡◌, ◌≢◌, ◌⊎◌, inl, inr, ℕ, ◌+◌, ◌≤◌, Bool, true, false, not, Option, Some, None, List, [], ◌∷◌, length, sum_by, sym, ap, ◌∙◌, refl, subst, arith}
+use Rattle.std.proofs.Common.{◌≡◌, ◌≢◌, inl, inr, ℕ, ◌+◌, ◌≤◌, Bool, true, false, not, Some, List, [], ◌∷◌, length, sym, ap, ◌∙◌, refl, subst, arith}
 use Rattle.std.proofs.lemmas.Bool.{cases_Bool}
 use Rattle.std.specs.Option.{IsSome}
 use Rattle.fs_quadratic.proofs.Laws.{field_order}
 use Rattle.fs_plane.specs.declared.corners.Corner.{Corner}
-use Rattle.fs_plane.specs.Vector.{vector_of, vector_neg, is_raised}
+use Rattle.fs_plane.specs.Vector.{vector_of, vector_neg}
 use Rattle.fs_gluing.specs.declared.surfaces.Side.{Side}
 use Rattle.fs_gluing.specs.Polygons.{at_side, HasSide, all_sides}
 use Rattle.fs_gluing.specs.Surface.{GluedPolygons, IsSurface, IsGlued}
 use Rattle.fs_gluing.specs.Vertices.{HoldsEast, IsCount}
-use Rattle.fs_stratum.specs.declared.cones.Cone.{Cone}
 use Rattle.fs_stratum.proofs.Lists.{IsIn, tally, one_if, tally-at_most}
-use Rattle.fs_stratum.proofs.Sides.{in_all_sides, all_sides_in, all_sides_apart, length-all_sides}
+use Rattle.fs_stratum.proofs.Sides.{in_all_sides, all_sides_in, all_sides_apart}
 use Rattle.fs_stratum.proofs.Turns as turns
 use Rattle.fs_stratum.proofs.East.{raised-neg}
 use Rattle.fs_stratum.proofs.Orbits.{partner_or}
-use Rattle.fs_stratum.proofs.Rays.{Rays, rays, value_of, rays_from_holds, holds_from_rays, held-rays}
+use Rattle.fs_stratum.proofs.Rays.{Rays, rays, rays_from_holds, holds_from_rays, held-rays}
 use Rattle.fs_stratum.proofs.Sums.{held_or, held_at, low_or, low_at, held-all}
 use Rattle.fs_stratum.proofs.Counts.{count-tally}
 
@@ -96,8 +95,8 @@ module _ (s : GluedPolygons) (surface : IsSurface s) where
   pub held-half : (k : ℕ) → IsCount (HoldsEast s) (all_sides s.polygons) k → k + length s.polygons ≡ tally (low_at s.d s.polygons) (all_sides s.polygons)
   held-half k count =
       let is : k ≡ tally (held_at s.d s.polygons) (all_sides s.polygons) =
-          count-tally (HoldsEast s) (held_at s.d s.polygons) (all_sides s.polygons) k
-          (λ c i held. let h = all_sides_in s.polygons c i in let r = rays s surface c h in test-at c h r ∙ sym (held-rays s surface c h r) ∙ rays_from_holds s surface c h held)
-          (λ c i test. let h = all_sides_in s.polygons c i in let r = rays s surface c h in holds_from_rays s surface c h (held-rays s surface c h r ∙ sym (test-at c h r) ∙ test))
-          count in
+      count-tally (HoldsEast s) (held_at s.d s.polygons) (all_sides s.polygons) k
+      (λ c i held. let h = all_sides_in s.polygons c i in let r = rays s surface c h in test-at c h r ∙ sym (held-rays s surface c h r) ∙ rays_from_holds s surface c h held)
+      (λ c i test. let h = all_sides_in s.polygons c i in let r = rays s surface c h in holds_from_rays s surface c h (held-rays s surface c h r ∙ sym (test-at c h r) ∙ test))
+      count in
       ap (λ n. n + length s.polygons) is ∙ held-all s surface

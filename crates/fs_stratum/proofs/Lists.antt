@@ -1,6 +1,6 @@
 -- Lists without repetition: what is counted in them, and that long sequences in them repeat.
 use Rattle.std.proofs.lemmas.Bool.{cases_eq, cases_Bool}
-use Rattle.std.proofs.Common.{◌≡◌, ◌⊎◌, inl, inr, ℕ, zero, suc, ◌+◌, ◌<◌, ◌≤◌, Bool, true, false, cond, List, [], ◌∷◌, ◌++◌, length, sym, ap, ◌∙◌, refl, subst, arith}
+use Rattle.std.proofs.Common.{◌≡◌, ◌⊎◌, inl, inr, ℕ, zero, suc, ◌+◌, ◌<◌, ◌≤◌, Bool, true, cond, List, [], ◌∷◌, ◌++◌, length, sym, ap, ◌∙◌, refl, subst, arith}
 
 -- 1 where the test passes
 abbrev pub one_if : Bool → ℕ
@@ -83,19 +83,19 @@ pub tally-at_most : {X Y : Type 0} (p : X → Bool) (q : Y → Bool) (f : X → 
 tally-at_most p q f [] ys apart sent one = omega arith
 tally-at_most p q f (x ∷ xs) ys apart sent one = elim (cases_Bool (p x)) [
   | inr e ↦
-    let rest = tally-at_most p q f xs ys apart.1 (λ z h. sent z (inr h)) (λ a b h k. one a b (inr h) (inr k)) in
-    let head : one_if (p x) ≡ 0 = ap one_if e in
-    omega arith
+      let rest = tally-at_most p q f xs ys apart.1 (λ z h. sent z (inr h)) (λ a b h k. one a b (inr h) (inr k)) in
+      let head : one_if (p x) ≡ 0 = ap one_if e in
+      omega arith
   | inl e ↦
-    let s = sent x (inl refl) e in
-    let w = without ys (f x) s.0 in
-    let rest = tally-at_most p q f xs w.rest apart.1
-        (λ z h t. (w.others (f z) (sent z (inr h) t).0 (λ same. apart.0 (subst (IsIn xs) (sym (one x z (inl refl) (inr h) same)) h)), (sent z (inr h) t).1))
-        (λ a b h k. one a b (inr h) (inr k)) in
-    let head : one_if (p x) ≡ 1 = ap one_if e in
-    let there : one_if (q (f x)) ≡ 1 = ap one_if s.1 in
-    let count = w.tally-is q in
-    omega arith
+      let s = sent x (inl refl) e in
+      let w = without ys (f x) s.0 in
+      let rest = tally-at_most p q f xs w.rest apart.1
+      (λ z h t. (w.others (f z) (sent z (inr h) t).0 (λ same. apart.0 (subst (IsIn xs) (sym (one x z (inl refl) (inr h) same)) h)), (sent z (inr h) t).1))
+      (λ a b h k. one a b (inr h) (inr k)) in
+      let head : one_if (p x) ≡ 1 = ap one_if e in
+      let there : one_if (q (f x)) ≡ 1 = ap one_if s.1 in
+      let count = w.tally-is q in
+      omega arith
 ]
 
 -- ---- sequences
@@ -135,8 +135,8 @@ repeats dec zero (y ∷ ys) f long inside = absurd (omega arith)
 repeats {X} dec (suc n) ys f long inside = elim (find dec (λ j. f (suc j)) (f 0) (suc n)) [
   | inl h ↦ repeats_first f n h.0 h.1 h.2
   | inr none ↦
-    let w = without ys (f 0) (inside 0 (omega arith)) in
-    repeats_later f n
-    (repeats dec n w.rest (λ i. f (suc i)) (let shorter = w.shorter in omega arith)
-    (λ i l. w.others (f (suc i)) (inside (suc i) (omega arith)) (none i (omega arith))))
+      let w = without ys (f 0) (inside 0 (omega arith)) in
+      repeats_later f n
+      (repeats dec n w.rest (λ i. f (suc i)) (let shorter = w.shorter in omega arith)
+      (λ i l. w.others (f (suc i)) (inside (suc i) (omega arith)) (none i (omega arith))))
 ]

@@ -1,5 +1,5 @@
 -- Turning round a vertex comes back.
-use Rattle.std.proofs.Common.{◌≡◌, ◌⊎◌, inl, inr, ℕ, zero, suc, ◌+◌, ◌<◌, ◌≤◌, Option, Some, None, List, [], ◌∷◌, length, sym, ap, ◌∙◌, refl, subst, arith}
+use Rattle.std.proofs.Common.{◌≡◌, ℕ, zero, suc, ◌+◌, Option, Some, None, List, length, sym, ap, ◌∙◌, refl, subst, arith}
 use Rattle.std.specs.Option.{IsSome}
 use Rattle.fs_plane.specs.declared.corners.Corner.{Corner}
 use Rattle.fs_gluing.specs.declared.surfaces.Side.{Side}
@@ -7,7 +7,7 @@ use Rattle.fs_gluing.specs.Polygons.{at_side, HasSide, all_sides}
 use Rattle.fs_gluing.specs.Turning.{TurnsTo, side_before}
 use Rattle.fs_gluing.specs.Vertices.{Turned, AreOneVertex}
 use Rattle.fs_gluing.proofs.Corners.{AreGlued, has_before, turn_there, turn_one_to_one}
-use Rattle.fs_stratum.proofs.Lists.{IsIn, Repeats, repeats}
+use Rattle.fs_stratum.proofs.Lists.{Repeats, repeats}
 use Rattle.fs_stratum.proofs.Sides.{same_corner, in_all_sides}
 
 -- the partner of a side, where it has one
@@ -86,7 +86,7 @@ module _ (polygons : List (List Side)) (glued : AreGlued polygons) where
   pub comes_back : (c : Corner) → HasSide polygons c → (n : ℕ) × (ahead polygons (suc n) c ≡ c)
   comes_back c h =
       let r : Repeats (λ i. ahead polygons i c) (length (all_sides polygons)) =
-          repeats same_corner (length (all_sides polygons)) (all_sides polygons) (λ i. ahead polygons i c) refl (λ i l. in_all_sides polygons (ahead polygons i c) (has_ahead i c h)) in
+      repeats same_corner (length (all_sides polygons)) (all_sides polygons) (λ i. ahead polygons i c) refl (λ i l. in_all_sides polygons (ahead polygons i c) (has_ahead i c h)) in
       (r.more, sym (ahead_one_to_one r.first c (ahead polygons (suc r.more) c) h (has_ahead (suc r.more) c h) (r.same ∙ ahead-add polygons (suc r.more) r.first c)))
 
   step_back : (c : Corner) → HasSide polygons c → AreOneVertex polygons (next polygons c) c

@@ -1,8 +1,8 @@
 -- Vertices, polygons and pairs of sides are even in number together: turning is the step to the side before, followed by the gluing.
-use Rattle.std.proofs.Common.{◌≡◌, ◌⊎◌, inl, inr, ℕ, zero, suc, ◌+◌, ◌*◌, ◌<◌, ◌≤◌, Option, Some, None, List, [], ◌∷◌, length, map, if◌then◌else◌, ◌==◌, sym, ap, ◌∙◌, refl, subst, arith}
+use Rattle.std.proofs.Common.{◌≡◌, inl, inr, ℕ, zero, suc, ◌<◌, Option, Some, None, List, [], ◌∷◌, length, map, sym, ap, ◌∙◌, refl, subst, arith}
 use Rattle.std.proofs.lemmas.List.{length-map}
 use Rattle.std.specs.Option.{IsSome, IfSome}
-use Rattle.std.specs.List.{AllByRecursion, Contains, slice_get}
+use Rattle.std.specs.List.{AllByRecursion, slice_get}
 use Rattle.std.specs.declared.cmp.Ordering.TheVariants.{Less}
 use Rattle.fs_cycles.specs.Cycles as cycles
 use Rattle.fs_cycles.specs.Blocks.{StepsBack}
@@ -83,10 +83,10 @@ module _ (s : GluedPolygons) (surface : IsSurface s) where
   apart_firsts [] all a = tt
   apart_firsts (x ∷ rest) all a = (
     (λ e i leads.
-    let z = cone_of rest all.1 e i in
-    let there = all.0.there in
-    let one = one_vertex_comm s.polygons surface.glued x.first e there (one_vertex_of x.first e there leads) in
-    z.1.least x.first (subst (λ c. AreOneVertex s.polygons c x.first) z.2 one) (subst (λ c. corner_cmp x.first c ≡ Less) z.2 (ascending_less x rest a e i))),
+        let z = cone_of rest all.1 e i in
+        let there = all.0.there in
+        let one = one_vertex_comm s.polygons surface.glued x.first e there (one_vertex_of x.first e there leads) in
+        z.1.least x.first (subst (λ c. AreOneVertex s.polygons c x.first) z.2 one) (subst (λ c. corner_cmp x.first c ≡ Less) z.2 (ascending_less x rest a e i))),
     apart_firsts rest all.1 (ascending_tail x rest a),
   )
 

@@ -1,5 +1,5 @@
 -- Round a vertex at least one corner holds (1,0): the rays turn left by less than half a turn, so they can't all stay on one side.
-use Rattle.std.proofs.Common.{◌≡◌, ◌⊎◌, inl, inr, ℕ, zero, suc, ◌+◌, ◌-◌, ◌<◌, ◌≤◌, Bool, true, false, not, ◌&&◌, Option, Some, None, List, [], ◌∷◌, sym, ap, ◌∙◌, refl, subst, arith}
+use Rattle.std.proofs.Common.{◌≡◌, inl, inr, ℕ, zero, suc, ◌+◌, ◌-◌, ◌≤◌, true, false, not, ◌&&◌, Option, Some, None, List, [], ◌∷◌, sym, ap, ◌∙◌, refl, subst, arith}
 use Rattle.std.proofs.lemmas.Bool.{cases_Bool, cases_eq}
 use Rattle.std.specs.declared.cmp.Ordering.{Ordering}
 use Rattle.std.specs.declared.cmp.Ordering.TheVariants.{Less, Equal, Greater}
@@ -19,14 +19,13 @@ use Rattle.fs_plane.proofs.Geometry.{cross_trans, cross_self}
 use Rattle.fs_gluing.specs.declared.surfaces.Side.{Side}
 use Rattle.fs_gluing.specs.Polygons.{at_side, HasSide, all_sides}
 use Rattle.fs_gluing.specs.Surface.{GluedPolygons, IsSurface}
-use Rattle.fs_gluing.specs.Turning.{side_before}
 use Rattle.fs_gluing.specs.Vertices.{AreOneVertex, HoldsEast, IsConeNumber}
 use Rattle.fs_stratum.proofs.Turns as turns
 use Rattle.fs_stratum.proofs.East.{IsLeftTurn, left_turn}
 use Rattle.fs_stratum.proofs.Counts.{count_zero}
 use Rattle.fs_stratum.proofs.Sides.{in_all_sides}
 use Rattle.fs_stratum.proofs.Orbits.{next, ahead, ahead-add, has_ahead, has_one_vertex, turned_ahead, comes_back}
-use Rattle.fs_stratum.proofs.Rays.{Rays, rays, raised_or, is_ray_raised, next_ray, holds_from_rays}
+use Rattle.fs_stratum.proofs.Rays.{rays, raised_or, is_ray_raised, next_ray, holds_from_rays}
 
 -- ---- vectors, each to the left of the one before
 
@@ -112,8 +111,8 @@ module _ (s : GluedPolygons) (surface : IsSurface s) where
     raised_before i e = elim (cases_Bool (is_ray_raised s (at i))) [
       | inl f ↦ f
       | inr f ↦ absurd (none (at i) (i, turned_ahead s.polygons surface.glued i c h)
-        (holds_from_rays s surface (at i) (has i)
-        ((λ j. not (f j) && is_ray_raised s (sym (ahead-next s.polygons i c) j)) ∙ e)))
+          (holds_from_rays s surface (at i) (has i)
+          ((λ j. not (f j) && is_ray_raised s (sym (ahead-next s.polygons i c) j)) ∙ e)))
     ]
 
     raised_down : (k i : ℕ) → is_ray_raised s (at (k + i)) ≡ true → is_ray_raised s (at i) ≡ true
@@ -133,9 +132,9 @@ module _ (s : GluedPolygons) (surface : IsSurface s) where
       around_raised : is_ray_raised s c ≡ true → ⊥
       around_raised e =
           let raised : (i : ℕ) → i ≤ suc m → is_raised s.d (ray s (at i)) ≡ true =
-              λ i l. ray_raised (at i) (has i) ∙ raised_down (suc m - i) i (let same : suc m ≡ suc m - i + i = omega arith in subst (λ n. is_ray_raised s (at n) ≡ true) same (ap (is_ray_raised s) back ∙ e)) in
+          λ i l. ray_raised (at i) (has i) ∙ raised_down (suc m - i) i (let same : suc m ≡ suc m - i + i = omega arith in subst (λ n. is_ray_raised s (at n) ≡ true) same (ap (is_ray_raised s) back ∙ e)) in
           let inner : (i : ℕ) → i ≤ m → IsPositive s.d (cross s.d east (ray s (at i))) =
-              λ i l. left_of_east surface.radicand (ray s (at i)) (above surface.radicand (ray s (at i)) (ray s (at (suc i))) (left_at i) (raised i (omega arith)) (raised (suc i) (omega arith))) in
+          λ i l. left_of_east surface.radicand (ray s (at i)) (above surface.radicand (ray s (at i)) (ray s (at (suc i))) (left_at i) (raised i (omega arith)) (raised (suc i) (omega arith))) in
           never_back surface.radicand east (λ i. ray s (at i)) m
           (λ i l. elim (cases_eq i (suc m)) [ inl f ↦ subst (λ e. IsPositive s.d (cross s.d east (ray s e))) (sym (ap at f ∙ back)) (inner 0 (omega arith)) | inr n ↦ inner i (omega arith) ])
           (λ i l. left_at i) (ap (ray s) back)
@@ -150,7 +149,7 @@ module _ (s : GluedPolygons) (surface : IsSurface s) where
   pub cone_number_positive : (c : Corner) (k : ℕ) → HasSide s.polygons c → IsConeNumber s c k → 1 ≤ k
   cone_number_positive c zero h number =
       let none : (e : Corner) → AreOneVertex s.polygons c e → ¬ HoldsEast s e =
-          λ e o held. count_zero (λ e. AreOneVertex s.polygons c e × HoldsEast s e) (all_sides s.polygons) e number (in_all_sides s.polygons e (has_one_vertex s.polygons surface.glued c e h o)) (o, held) in
+      λ e o held. count_zero (λ e. AreOneVertex s.polygons c e × HoldsEast s e) (all_sides s.polygons) e number (in_all_sides s.polygons e (has_one_vertex s.polygons surface.glued c e h o)) (o, held) in
       let r = comes_back s.polygons surface.glued c h in
       absurd (elim (cases_Bool (is_ray_raised s c)) [ inl e ↦ around_raised c h none r.0 r.1 e | inr e ↦ around_lowered c h none r.0 r.1 e ])
   cone_number_positive c (suc k) h number = omega arith

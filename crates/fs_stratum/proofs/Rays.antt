@@ -1,6 +1,5 @@
 -- The rays of a corner: the side that begins there, and the opposite of the one that ends there.
-use Rattle.std.proofs.Common.{◌≡◌, ◌⊎◌, inl, inr, ℕ, zero, suc, ◌+◌, ◌-◌, ◌<◌, Bool, true, false, not, ◌&&◌, Option, Some, None, List, [], ◌∷◌, length, map, if◌then◌else◌, ◌==◌, unwrap_or, sym, ap, ◌∙◌, refl, subst, arith}
-use Rattle.std.proofs.lemmas.Bool.{cases_eq, cases_Bool}
+use Rattle.std.proofs.Common.{◌≡◌, ℕ, zero, suc, ◌-◌, Bool, true, false, not, ◌&&◌, Option, Some, None, List, [], ◌∷◌, length, if◌then◌else◌, ◌==◌, unwrap_or, sym, ap, ◌∙◌, refl, subst, arith}
 use Rattle.std.proofs.lemmas.Bool.Decides.{nat_tests}
 use Rattle.std.proofs.lemmas.Option.{same_Some, slice_get-map}
 use Rattle.std.proofs.lemmas.List.{length-map}
@@ -145,6 +144,6 @@ module _ (s : GluedPolygons) (surface : IsSurface s) (c : Corner) (h : HasSide s
       let b : r.before ≡ k.before = same_Some r.before k.before (sym r.ends ∙ k.ends) in
       let a : r.after ≡ k.after = same_Some r.after k.after (sym r.begins ∙ k.begins) in
       let left : IsPositive s.d (cross s.d k.before.vector k.after.vector) =
-          subst (λ (x : Side). IsPositive s.d (cross s.d x.vector k.after.vector)) b (subst (λ (x : Side). IsPositive s.d (cross s.d r.before.vector x.vector)) a r.left) in
+      subst (λ (x : Side). IsPositive s.d (cross s.d x.vector k.after.vector)) b (subst (λ (x : Side). IsPositive s.d (cross s.d r.before.vector x.vector)) a r.left) in
       let q : Rays s c = record { before = k.before; after = k.after; ends = k.ends; begins = k.begins; left = left } in
       held-rays q ∙ test_from_holds surface.radicand k.before.vector k.after.vector left k.holds

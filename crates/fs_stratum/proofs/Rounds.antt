@@ -1,5 +1,5 @@
 -- Following the turns from a corner round its vertex, with marks on the corners that were met.
-use Rattle.std.proofs.Common.{◌≡◌, ◌⊎◌, inl, inr, ℕ, zero, suc, ◌+◌, ◌<◌, ◌≤◌, Bool, true, false, not, ◌&&◌, List, [], ◌∷◌, length, sum_by, sym, ap, ◌∙◌, refl, subst, arith}
+use Rattle.std.proofs.Common.{◌≡◌, ◌⊎◌, inl, inr, ℕ, zero, suc, ◌<◌, ◌≤◌, Bool, true, false, not, ◌&&◌, List, [], ◌∷◌, sym, ap, ◌∙◌, refl, subst, arith}
 use Rattle.std.proofs.lemmas.Bool.{cases_Bool}
 use Rattle.std.specs.Bool.{IsTrue}
 use Rattle.std.specs.Option.{IfSome}
@@ -122,19 +122,20 @@ module _ (s : GluedPolygons) (first : Corner) (old : List (List Bool)) (fresh : 
           start = elim r.start [ inl a ↦ inl (more_keeps c now more m first a) | inr b ↦ inl (ap (is_marked more) b ∙ m.here) ];
           count = elim counted [
             | inl a ↦ subst (IsCount Q (all_sides s.polygons)) (sym a.1)
-              (count_more P Q (all_sides s.polygons) c k (all_sides_apart s.polygons) (in_all_sides s.polygons c (has_here now c k r))
-              (λ p. not_both p.0.0 free) ((m.here, r.here), a.0)
-              (λ x apart p. ((more_keeps c now more m x p.0.0, p.0.1), p.1))
-              (λ x apart q. elim (more_cases c now more m x q.0.0) [ inl same ↦ absurd (apart (sym same)) | inr l ↦ ((l, q.0.1), q.1) ]) r.count)
+                (count_more P Q (all_sides s.polygons) c k (all_sides_apart s.polygons) (in_all_sides s.polygons c (has_here now c k r))
+                (λ p. not_both p.0.0 free) ((m.here, r.here), a.0)
+                (λ x apart p. ((more_keeps c now more m x p.0.0, p.0.1), p.1))
+                (λ x apart q. elim (more_cases c now more m x q.0.0) [ inl same ↦ absurd (apart (sym same)) | inr l ↦ ((l, q.0.1), q.1) ]) r.count)
             | inr b ↦ subst (IsCount Q (all_sides s.polygons)) (sym b.1)
-              (count_same P Q (all_sides s.polygons) k
-              (λ x i p. ((more_keeps c now more m x p.0.0, p.0.1), p.1))
-              (λ x i q. elim (more_cases c now more m x q.0.0) [ inl same ↦ absurd (b.0 (subst (HoldsEast s) same q.1)) | inr l ↦ ((l, q.0.1), q.1) ]) r.count)
+                (count_same P Q (all_sides s.polygons) k
+                (λ x i p. ((more_keeps c now more m x p.0.0, p.0.1), p.1))
+                (λ x i q. elim (more_cases c now more m x q.0.0) [ inl same ↦ absurd (b.0 (subst (HoldsEast s) same q.1)) | inr l ↦ ((l, q.0.1), q.1) ]) r.count)
           ];
         }
       where
         P : Corner → Type 0
         P x = (IsTrue (is_marked now x) × AreOneVertex s.polygons first x) × HoldsEast s x
+
         Q : Corner → Type 0
         Q x = (IsTrue (is_marked more x) × AreOneVertex s.polygons first x) × HoldsEast s x
 

@@ -1,5 +1,5 @@
 -- All sides of polygons: each stands in their list, once.
-use Rattle.std.proofs.Common.{◌≡◌, ◌⊎◌, inl, inr, ℕ, zero, suc, ◌+◌, ◌<◌, ◌≤◌, Option, Some, None, List, [], ◌∷◌, ◌++◌, length, map, sum_by, sym, ap, ◌∙◌, refl, subst, arith}
+use Rattle.std.proofs.Common.{◌≡◌, ◌⊎◌, inl, inr, ℕ, zero, suc, ◌+◌, ◌<◌, ◌≤◌, List, [], ◌∷◌, length, map, sum_by, sym, ap, ◌∙◌, refl, subst, arith}
 use Rattle.std.proofs.lemmas.Bool.{cases_eq}
 use Rattle.std.proofs.lemmas.List.{length-map, length-append}
 use Rattle.std.proofs.lemmas.List.Sums.{sum_by-cons}
@@ -77,10 +77,10 @@ sides_from_in : {X : Type 0} (i : ℕ) (polygons : List (List X)) (c : Corner) �
 sides_from_in i [] c h = absurd h
 sides_from_in i (polygon ∷ polygons) c h = elim (in_cases (row i 0 (length polygon)) (sides_from (i + 1) polygons) c h) [
   | inl k ↦
-    let r = row_in i 0 (length polygon) c k in
-    let same = r.0 in
-    let l = r.2 in
-    record { place = 0; is = omega arith; there = some_of_inside polygon c.side (omega arith) }
+      let r = row_in i 0 (length polygon) c k in
+      let same = r.0 in
+      let l = r.2 in
+      record { place = 0; is = omega arith; there = some_of_inside polygon c.side (omega arith) }
   | inr k ↦ let s = sides_from_in (i + 1) polygons c k in let is = s.is in record { place = suc s.place; is = omega arith; there = s.there }
 ]
 

@@ -1,22 +1,20 @@
 -- How many corners hold (1,0), polygon by polygon: one less than the sides that aren't raised.
-use Rattle.std.proofs.Common.{◌≡◌, ◌⊎◌, inl, inr, ℕ, zero, suc, ◌+◌, ◌*◌, ◌-◌, ◌<◌, ◌≤◌, Bool, true, false, cond, not, ◌&&◌, Option, Some, None, List, [], ◌∷◌, ◌++◌, length, map, sum_by, count_by, if◌then◌else◌, ◌==◌, sym, ap, ◌∙◌, refl, subst, arith}
-use Rattle.std.proofs.lemmas.Bool.{cases_Bool}
+use Rattle.std.proofs.Common.{◌≡◌, ℕ, suc, ◌+◌, ◌-◌, Bool, false, cond, not, Option, Some, None, List, [], ◌∷◌, length, map, count_by, sym, ap, ◌∙◌, refl, arith}
 use Rattle.std.proofs.lemmas.List.Sums.{sum_by-cons}
 use Rattle.std.proofs.lemmas.List.{length-map}
-use Rattle.std.proofs.lemmas.Option.{same_Some}
-use Rattle.std.specs.Option.{IsSome, option_and_then}
+use Rattle.std.specs.Option.{option_and_then}
 use Rattle.std.specs.List.{slice_get, range_with_len, AllByRecursion}
 use Rattle.fs_quadratic.specs.Radicand.{IsRadicand}
 use Rattle.fs_plane.specs.declared.corners.Corner.{Corner}
 use Rattle.fs_plane.specs.declared.vector.V2.{V2}
 use Rattle.fs_plane.specs.Vector.{is_raised}
 use Rattle.fs_gluing.specs.declared.surfaces.Side.{Side}
-use Rattle.fs_gluing.specs.Convex.{Bend, bends, bends_from, last_side, TurnsLeft, is_rise}
-use Rattle.fs_gluing.specs.Polygons.{at_side, HasSide, sides_from, all_sides}
+use Rattle.fs_gluing.specs.Convex.{bends_from, last_side, TurnsLeft, is_rise}
+use Rattle.fs_gluing.specs.Polygons.{at_side, sides_from, all_sides}
 use Rattle.fs_gluing.specs.Surface.{GluedPolygons, IsSurface, IsPolygon, side_vectors}
-use Rattle.fs_gluing.specs.Turning.{side_before, side_count, length_or_0}
-use Rattle.fs_stratum.proofs.Lists.{IsIn, tally, one_if, tally-append, tally-agree}
-use Rattle.fs_stratum.proofs.Sides.{corner, row, row_in, some_of_inside}
+use Rattle.fs_gluing.specs.Turning.{side_before, length_or_0}
+use Rattle.fs_stratum.proofs.Lists.{tally, one_if, tally-append, tally-agree}
+use Rattle.fs_stratum.proofs.Sides.{corner, row, some_of_inside}
 use Rattle.fs_stratum.proofs.East.{is_held, is_east, counted}
 use Rattle.fs_stratum.proofs.Rays.{before, before_zero, before_suc, last_is, value_of}
 
@@ -81,7 +79,7 @@ held_in-from d whole (s ∷ rest) j b ends same =
     let here : slice_get whole j ≡ Some s = ap (slice_get whole) plus ∙ same 0 in
     let next : suc j ≡ j + 1 = omega arith in
     let rec = held_in-from d whole rest (j + 1) s (ap (λ n. slice_get whole (before (length whole) n)) (sym next) ∙ ap (slice_get whole) (before_suc (length whole) j) ∙ here)
-        (λ k. ap (slice_get whole) (let e : j + 1 + k ≡ j + suc k = omega arith in e) ∙ same (suc k)) in
+    (λ k. ap (slice_get whole) (let e : j + 1 + k ≡ j + suc k = omega arith in e) ∙ same (suc k)) in
     λ i. one_if (held_or d (ends i) (here i)) + rec i
 
 low_in-from : (d : ℕ) (whole rest : List Side) (j : ℕ) → ((k : ℕ) → slice_get whole (j + k) ≡ slice_get rest k) → tally (low_in d whole) (range_with_len j (length rest)) ≡ tally (is_low d) (side_vectors rest)
@@ -100,7 +98,7 @@ held-polygon {d} radicand polygon p =
     let b = value_of (slice_get polygon (length polygon - 1)) (some_of_inside polygon (length polygon - 1) (omega arith)) in
     let none : (k : ℕ) → slice_get polygon (0 + k) ≡ slice_get polygon k = λ k. ap (slice_get polygon) (let e : 0 + k ≡ k = omega arith in e) in
     let h : tally (held_in d polygon) (range_with_len 0 (length polygon)) ≡ held_from d b.value.vector (side_vectors polygon) =
-        held_in-from d polygon polygon 0 b.value (ap (slice_get polygon) (before_zero (length polygon) 0 refl) ∙ b.is) none in
+    held_in-from d polygon polygon 0 b.value (ap (slice_get polygon) (before_zero (length polygon) 0 refl) ∙ b.is) none in
     let last : held_from d b.value.vector (side_vectors polygon) ≡ held_from d (last_side (side_vectors polygon)) (side_vectors polygon) = ap (λ v. held_from d v (side_vectors polygon)) (sym (last_is polygon b.value b.is)) in
     ap (λ n. n + 1) (h ∙ last) ∙ held-round radicand (side_vectors polygon) p ∙ sym (low_in-from d polygon polygon 0 none)
 

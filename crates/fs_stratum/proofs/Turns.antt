@@ -1,10 +1,9 @@
 -- Left turns at a direction of the line of (1,0), over an ordered ring.
-use Rattle.std.proofs.Common.{◌≡◌, ◌≢◌, [], ◌∷◌, refl, sym, ap, ◌∙◌}
+use Rattle.std.proofs.Common.{◌≡◌, [], ◌∷◌, refl}
 use Rattle.fs_ring.specs.Operations.{Operations}
-use Rattle.fs_ring.specs.OrderedRing.{IsOrderedRing, positive, null, negative}
-use Rattle.fs_ring.specs.Vector.{Vector, unit_vector, cross, dot}
-use Rattle.fs_ring.specs.Direction.{IsAlong, InSector, at_start, inside}
-use Rattle.fs_ring.proofs.RingLaws as ring
+use Rattle.fs_ring.specs.OrderedRing.{IsOrderedRing}
+use Rattle.fs_ring.specs.Vector.{Vector, cross, dot}
+use Rattle.fs_ring.specs.Direction.{IsAlong}
 use Rattle.fs_ring.proofs.Signs as signs
 use Rattle.fs_ring.proofs.Directions as directions
 use Rattle.fs_ring.proofs.Solver.{expressions as E, numeral, ◌⊗◌, ◌≐◌, ◌from◌}
@@ -14,7 +13,6 @@ module _ {A : Type 0} {R : Operations A} {IsPositive : A → Type 0} (L : IsOrde
   open R use {mul as ◌*◌, neg, zero as 𝟘}
 
   infixl 70 ◌*◌
-
   -- ---- a left turn from before to after
 
   module _ (b a : Vector A) (left : IsPositive (cross R b a)) where

@@ -25,13 +25,13 @@ go_round-k-requires-clause-fresh c =
 pub loop-j-preserved : goal.loop-j-preserved
 loop-j-preserved c = elim c.if-not-has.branch [
   | then-not-has+in_ok-push w ↦
-    let has = has_in_row c.args.surface.now c.args.i c.loop-j.j c.sides-j-end.result c.requires.there c.sides-j-end.ensures c.loop-j-test.true in
-    let new = found_new c.args.surface.now c.requires.surface c.args.i c.loop-j.j w.go_round-k.result c.loop-j.marks w.go_round-k.new.marks c.loop-j.cones has c.loop-j.invariant
-        (sym c.has.ensures ∙ w.if-not-has.true) w.go_round-k.ensures.number w.go_round-k.ensures.marks in
-    found_same c.args.surface.now _ w.marks-is (w.cones-is ∙ w.in_ok-push.ensures.ok) new
+      let has = has_in_row c.args.surface.now c.args.i c.loop-j.j c.sides-j-end.result c.requires.there c.sides-j-end.ensures c.loop-j-test.true in
+      let new = found_new c.args.surface.now c.requires.surface c.args.i c.loop-j.j w.go_round-k.result c.loop-j.marks w.go_round-k.new.marks c.loop-j.cones has c.loop-j.invariant
+      (sym c.has.ensures ∙ w.if-not-has.true) w.go_round-k.ensures.number w.go_round-k.ensures.marks in
+      found_same c.args.surface.now _ w.marks-is (w.cones-is ∙ w.in_ok-push.ensures.ok) new
   | else-not-has w ↦
-    found_same c.args.surface.now _ w.marks-is w.cones-is
-    (found_seen c.args.surface.now c.args.i c.loop-j.j c.loop-j.marks c.loop-j.cones c.loop-j.invariant (sym c.has.ensures ∙ w.if-not-has.false))
+      found_same c.args.surface.now _ w.marks-is w.cones-is
+      (found_seen c.args.surface.now c.args.i c.loop-j.j c.loop-j.marks c.loop-j.cones c.loop-j.invariant (sym c.has.ensures ∙ w.if-not-has.false))
 ]
 
 pub returns : goal.returns
