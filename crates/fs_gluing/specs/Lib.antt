@@ -4,6 +4,7 @@ pub mod Reached
 pub mod Surface
 pub mod Places
 pub mod Turning
+pub mod Vertices
 pub mod Scaling
 pub mod Shape
 pub mod Gluing

@@ -1,6 +1,6 @@
 -- Vectors of the plane, by their exact parts.
 use Rattle.std.specs.Prelude.{ℕ, List, [], ◌∷◌, Bool, true, false}
-use Rattle.std.specs.Ordering.{is_gt}
+use Rattle.std.specs.Ordering.{is_gt, is_lt}
 use Rattle.std.specs.declared.cmp.Ordering.{Ordering}
 use Rattle.std.specs.declared.cmp.Ordering.TheVariants.{Less, Equal, Greater}
 use Rattle.fs_ring.specs.Vector as plane
@@ -57,3 +57,13 @@ upper_by_signs Less x = false
 -- the vector points into the upper half
 abbrev pub is_upper : ℕ → V2 → Bool
 is_upper d v = upper_by_signs (sign d v.y) (sign d v.x)
+
+-- the other half, to which (-1,0) belongs and not (1,0): y > 0, or y = 0 and x < 0
+abbrev pub raised_by_signs : Ordering → Ordering → Bool
+raised_by_signs Greater x = true
+raised_by_signs Equal x = is_lt x
+raised_by_signs Less x = false
+
+-- the vector is raised: it points above the line of (1,0), or along (-1,0)
+abbrev pub is_raised : ℕ → V2 → Bool
+is_raised d v = raised_by_signs (sign d v.y) (sign d v.x)

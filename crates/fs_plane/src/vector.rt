@@ -1,5 +1,5 @@
 ghost use Rattle.std.specs.Prelude.{◌≡◌};
-ghost use Rattle.fs_plane.specs.Vector.{vector_zero, vector_neg, is_upper};
+ghost use Rattle.fs_plane.specs.Vector.{vector_zero, vector_neg, is_upper, is_raised};
 
 use fs_quadratic::{Elem, Field};
 use std::cmp::Ordering;
@@ -36,6 +36,17 @@ impl V2 {
             Ordering::Greater => true,
             Ordering::Less => false,
             Ordering::Equal => field.sign(self.x) == Ordering::Greater,
+        }
+    }
+
+    /// Whether it is raised: y > 0, or y = 0 and x < 0. Of two opposite vectors one is.
+    pub fn is_raised(self, field: Field) -> bool
+        ensures { result ≡ is_raised field.d self }
+    {
+        match field.sign(self.y) {
+            Ordering::Greater => true,
+            Ordering::Less => false,
+            Ordering::Equal => field.sign(self.x) == Ordering::Less,
         }
     }
 }

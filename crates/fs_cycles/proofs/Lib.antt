@@ -1,0 +1,7 @@
+pub mod Members
+pub mod Lists
+pub mod Iterates
+pub mod Representatives
+pub mod Exchange
+pub mod Pairs
+pub mod Blocks

@@ -1,0 +1,37 @@
+-- The vertices of a surface: which corners gluing makes one point, and how often the directions go round there.
+use Rattle.std.specs.Prelude.{◌≡◌, ℕ, zero, suc, ◌⊎◌, List, [], ◌∷◌, Some}
+use Rattle.fs_ring.specs.Vector.{unit_vector}
+use Rattle.fs_ring.specs.Direction.{InSector}
+use Rattle.fs_quadratic.specs.Ring.{quadratic, IsPositive}
+use Rattle.fs_plane.specs.declared.corners.Corner.{Corner}
+use Rattle.fs_plane.specs.Vector.{vector_of, vector_neg}
+use Rattle.fs_gluing.specs.declared.surfaces.Side.{Side}
+use Rattle.fs_gluing.specs.Polygons.{at_side, all_sides}
+use Rattle.fs_gluing.specs.Surface.{GluedPolygons}
+use Rattle.fs_gluing.specs.Turning.{TurnsTo, side_before}
+
+-- n turns lead from c to e
+abbrev pub Turned : List (List Side) → ℕ → Corner → Corner → Type 0
+Turned polygons zero c e = c ≡ e
+Turned polygons (suc n) c e = (next : Corner) × TurnsTo polygons c next × Turned polygons n next e
+
+-- the corners are of one vertex: some number of turns leads from the one to the other
+abbrev pub AreOneVertex : List (List Side) → Corner → Corner → Type 0
+AreOneVertex polygons c e = (n : ℕ) × Turned polygons n c e
+
+-- the corner's sector holds (1,0): it runs counterclockwise from the side that begins there, included, to the opposite of the side that ends there, excluded
+pub record HoldsEast (s : GluedPolygons) (c : Corner) : Type 0 where
+  pub before : Side
+  pub after : Side
+  pub ends : at_side s.polygons (side_before s.polygons c) ≡ Some before
+  pub begins : at_side s.polygons c ≡ Some after
+  pub holds : InSector (quadratic s.d) (IsPositive s.d) (vector_of after.vector) (vector_of (vector_neg before.vector)) (unit_vector (quadratic s.d))
+
+-- k of these corners have P
+abbrev pub IsCount : (Corner → Type 0) → List Corner → ℕ → Type 0
+IsCount P [] k = k ≡ 0
+IsCount P (c ∷ corners) k = (P c × ((less : ℕ) × (k ≡ suc less) × IsCount P corners less)) ⊎ ((¬ P c) × IsCount P corners k)
+
+-- k is the cone number of the vertex of c: so many of its corners hold (1,0), and its cone angle is 2πk
+abbrev pub IsConeNumber : GluedPolygons → Corner → ℕ → Type 0
+IsConeNumber s c k = IsCount (λ e. AreOneVertex s.polygons c e × HoldsEast s e) (all_sides s.polygons) k

@@ -1,0 +1,15 @@
+pub mod Lists
+pub mod Turns
+pub mod East
+pub mod Sides
+pub mod Orbits
+pub mod Counts
+pub mod Rays
+pub mod Positive
+pub mod Rounds
+pub mod Blank
+pub mod Found
+pub mod Sums
+pub mod Halves
+pub mod EulerSum
+pub mod Parity

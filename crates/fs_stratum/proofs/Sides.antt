@@ -1,0 +1,123 @@
+-- All sides of polygons: each stands in their list, once.
+use Rattle.std.proofs.Common.{◌≡◌, ◌⊎◌, inl, inr, ℕ, zero, suc, ◌+◌, ◌<◌, ◌≤◌, List, [], ◌∷◌, length, map, sum_by, sym, ap, ◌∙◌, refl, subst, arith}
+use Rattle.std.proofs.lemmas.Bool.{cases_eq}
+use Rattle.std.proofs.lemmas.List.{length-map, length-append}
+use Rattle.std.proofs.lemmas.List.Sums.{sum_by-cons}
+use Rattle.std.specs.Option.{IsSome}
+use Rattle.std.specs.List.{slice_get, range_with_len}
+use Rattle.fs_plane.specs.declared.corners.Corner.{Corner}
+use Rattle.fs_gluing.specs.Polygons.{HasSide, sides_from, all_sides}
+use Rattle.fs_stratum.proofs.Lists.{IsIn, IsApart, in_front, in_back, in_cases, apart-append}
+
+-- the corner by its numbers
+abbrev pub corner : ℕ → ℕ → Corner
+corner i j = record { polygon = i; side = j }
+
+pub corner_eq : {a b : Corner} → a.polygon ≡ b.polygon → a.side ≡ b.side → a ≡ b
+corner_eq e f = λ i. record { polygon = e i; side = f i }
+
+pub same_corner : (a b : Corner) → (a ≡ b) ⊎ ¬ (a ≡ b)
+same_corner a b = elim (cases_eq a.polygon b.polygon) [
+  | inl e ↦ elim (cases_eq a.side b.side) [ inl f ↦ inl (corner_eq e f) | inr n ↦ inr (λ (h : a ≡ b). n (ap (λ (c : Corner). c.side) h)) ]
+  | inr n ↦ inr (λ (h : a ≡ b). n (ap (λ (c : Corner). c.polygon) h))
+]
+
+-- the corners of polygon i from side a on
+abbrev pub row : ℕ → ℕ → ℕ → List Corner
+row i a n = map (λ j. record { polygon = i; side = j }) (range_with_len a n)
+
+pub in_row : (i a n j : ℕ) → a ≤ j → j < a + n → IsIn (row i a n) (corner i j)
+in_row i a zero j l m = absurd (omega arith)
+in_row i a (suc n) j l m = elim (cases_eq a j) [ inl e ↦ inl (ap (corner i) e) | inr apart ↦ inr (in_row i (a + 1) n j (omega arith) (omega arith)) ]
+
+pub row_in : (i a n : ℕ) (c : Corner) → IsIn (row i a n) c → (c.polygon ≡ i) × (a ≤ c.side) × (c.side < a + n)
+row_in i a zero c h = absurd h
+row_in i a (suc n) c (inl e) =
+    let p : i ≡ c.polygon = ap (λ (c : Corner). c.polygon) e in
+    let s : a ≡ c.side = ap (λ (c : Corner). c.side) e in
+    (sym p, omega arith, omega arith)
+row_in i a (suc n) c (inr h) =
+    let k = row_in i (a + 1) n c h in
+    let l = k.1 in
+    let m = k.2 in
+    (k.0, omega arith, omega arith)
+
+row_apart : (i a n : ℕ) → IsApart (row i a n)
+row_apart i a zero = tt
+row_apart i a (suc n) = ((λ h. let l = (row_in i (a + 1) n (corner i a) h).1 in absurd (omega arith)), row_apart i (a + 1) n)
+
+inside_of_some : {X : Type 0} (xs : List X) (j : ℕ) → IsSome (slice_get xs j) → j < length xs
+inside_of_some [] j h = cc
+inside_of_some (x ∷ xs) zero h = omega arith
+inside_of_some (x ∷ xs) (suc j) h = let l = inside_of_some xs j h in omega arith
+
+pub some_of_inside : {X : Type 0} (xs : List X) (j : ℕ) → j < length xs → IsSome (slice_get xs j)
+some_of_inside [] j l = absurd (omega arith)
+some_of_inside (x ∷ xs) zero l = refl
+some_of_inside (x ∷ xs) (suc j) l = some_of_inside xs j (omega arith)
+
+in_sides_from : {X : Type 0} (i k j : ℕ) (polygons : List (List X)) → HasSide polygons (corner k j) → IsIn (sides_from i polygons) (corner (i + k) j)
+in_sides_from i k j [] h = cc
+in_sides_from i zero j (polygon ∷ polygons) h =
+    let same : i ≡ i + 0 = omega arith in
+    subst (λ n. IsIn (sides_from i (polygon ∷ polygons)) (corner n j)) same
+    (in_front (row i 0 (length polygon)) (sides_from (i + 1) polygons) (corner i j) (in_row i 0 (length polygon) j (omega arith) (let l = inside_of_some polygon j h in omega arith)))
+in_sides_from i (suc k) j (polygon ∷ polygons) h =
+    let same : i + 1 + k ≡ i + suc k = omega arith in
+    subst (λ n. IsIn (sides_from i (polygon ∷ polygons)) (corner n j)) same
+    (in_back (row i 0 (length polygon)) (sides_from (i + 1) polygons) (corner (i + 1 + k) j) (in_sides_from (i + 1) k j polygons h))
+
+-- where a corner of that list stands
+pub record StandsFrom {X : Type 0} (i : ℕ) (polygons : List (List X)) (c : Corner) : Type 0 where
+  pub place : ℕ
+  pub is : c.polygon ≡ i + place
+  pub there : HasSide polygons (corner place c.side)
+
+sides_from_in : {X : Type 0} (i : ℕ) (polygons : List (List X)) (c : Corner) → IsIn (sides_from i polygons) c → StandsFrom i polygons c
+sides_from_in i [] c h = absurd h
+sides_from_in i (polygon ∷ polygons) c h = elim (in_cases (row i 0 (length polygon)) (sides_from (i + 1) polygons) c h) [
+  | inl k ↦
+      let r = row_in i 0 (length polygon) c k in
+      let same = r.0 in
+      let l = r.2 in
+      record { place = 0; is = omega arith; there = some_of_inside polygon c.side (omega arith) }
+  | inr k ↦ let s = sides_from_in (i + 1) polygons c k in let is = s.is in record { place = suc s.place; is = omega arith; there = s.there }
+]
+
+sides_from_apart : {X : Type 0} (i : ℕ) (polygons : List (List X)) → IsApart (sides_from i polygons)
+sides_from_apart i [] = tt
+sides_from_apart i (polygon ∷ polygons) =
+    apart-append (row i 0 (length polygon)) (sides_from (i + 1) polygons) (row_apart i 0 (length polygon)) (sides_from_apart (i + 1) polygons)
+    (λ c h k.
+    let p = (row_in i 0 (length polygon) c h).0 in
+    let q = (sides_from_in (i + 1) polygons c k).is in
+    absurd (omega arith))
+
+pub all_sides_apart : {X : Type 0} (polygons : List (List X)) → IsApart (all_sides polygons)
+all_sides_apart polygons = sides_from_apart 0 polygons
+
+pub in_all_sides : {X : Type 0} (polygons : List (List X)) (c : Corner) → HasSide polygons c → IsIn (all_sides polygons) c
+in_all_sides polygons c h =
+    let same : 0 + c.polygon ≡ c.polygon = omega arith in
+    subst (λ n. IsIn (all_sides polygons) (corner n c.side)) same (in_sides_from 0 c.polygon c.side polygons h)
+
+pub all_sides_in : {X : Type 0} (polygons : List (List X)) (c : Corner) → IsIn (all_sides polygons) c → HasSide polygons c
+all_sides_in polygons c h =
+    let s = sides_from_in 0 polygons c h in
+    let is = s.is in
+    let same : s.place ≡ c.polygon = omega arith in
+    subst (λ n. HasSide polygons (corner n c.side)) same s.there
+
+length-range : (a n : ℕ) → length (range_with_len a n) ≡ n
+length-range a zero = refl
+length-range a (suc n) = ap (λ k. suc k) (length-range (a + 1) n)
+
+length-sides_from : {X : Type 0} (i : ℕ) (polygons : List (List X)) → length (sides_from i polygons) ≡ sum_by length polygons
+length-sides_from i [] = refl
+length-sides_from {X} i (polygon ∷ polygons) =
+    length-append (row i 0 (length polygon)) (sides_from (i + 1) polygons)
+    ∙ (λ k. (length-map (range_with_len 0 (length polygon)) (corner i) ∙ length-range 0 (length polygon)) k + length-sides_from (i + 1) polygons k)
+    ∙ sym (sum_by-cons length polygon polygons)
+
+pub length-all_sides : {X : Type 0} (polygons : List (List X)) → length (all_sides polygons) ≡ sum_by length polygons
+length-all_sides polygons = length-sides_from 0 polygons

@@ -1,0 +1,7 @@
+// The vertices of a surface, their cone angles, and the genus.
+#![tactic(auto)]
+
+mod cones;
+mod marks;
+
+pub use cones::{Cone, classes, genus};
