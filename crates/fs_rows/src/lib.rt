@@ -1,10 +1,13 @@
-// Tests of the whole call `flat` over memory, and of the streams over the standard library's own.
+// Tests of the whole call `flat` over memory, of vertices, and of the streams over the standard
+// library's own.
 #![tactic(auto)]
 
 #[cfg(test)]
 mod jobs;
 #[cfg(test)]
 mod running;
+#[cfg(test)]
+mod strata;
 #[cfg(test)]
 mod streams;
 #[cfg(test)]
