@@ -1,5 +1,5 @@
 -- What a statement adds to a draft.
-use Rattle.std.proofs.Common.{◌≡◌, ◌≢◌, ℕ, ◌+◌, ◌<◌, ◌≤◌, ◌⊎◌, List, [], ◌∷◌, ◌++◌, Err, inl, inr, length, sum_by, refl, sym, ap, ◌∙◌, subst, arith, length-append, zero-add}
+use Rattle.std.proofs.Common.{◌≡◌, ◌≢◌, ℕ, ◌+◌, ◌<◌, ◌≤◌, ◌⊎◌, List, [], ◌∷◌, ◌++◌, Err, inl, inr, length, sum_by, refl, sym, ap, ◌∙◌, subst, arith, zero-add}
 use Rattle.std.proofs.lemmas.List.Sums.{sum_by-append}
 use Rattle.fs_quadratic.specs.Radicand.{IsRadicand}
 use Rattle.fs_fraction.specs.declared.number.NumberFault.{NumberFault}
@@ -10,7 +10,7 @@ use Rattle.fs_job.specs.declared.job.Command.{Command}
 use Rattle.fs_job.specs.declared.job.JobStop.{JobStop}
 use Rattle.fs_job.specs.declared.job.JobStop.TheVariants as stops
 use Rattle.fs_job.specs.Statement.{Statement, Field_line, Polygon_line, Glue_line, Command_line, End_line, numbers}
-use Rattle.fs_job.specs.Grammar.{Draft, Headed, Drafted, Ended, Next, draft_of, MayCome, HasRoom, FirstUnread, number_fault, ArePoints}
+use Rattle.fs_job.specs.Grammar.{Draft, Headed, Drafted, Ended, Next, MayCome, HasRoom, FirstUnread, number_fault, ArePoints}
 use Rattle.fs_job.specs.Line.{pairs_of}
 use Rattle.fs_job.specs.Stage.{Comes, Follows, unread, taken}
 use Rattle.fs_job.proofs.Pairs.{length-pairs_of}

@@ -1,11 +1,10 @@
 -- Where a line leads: to one outcome, and to some.
-use Rattle.std.proofs.Common.{◌≡◌, ◌≢◌, ℕ, ◌⊎◌, inl, inr, List, [], ◌∷◌, ◌++◌, Result, Ok, Err, Bool, refl, sym, ap, ◌∙◌, subst}
-use Rattle.std.specs.List.{AllByRecursion, flat_map}
+use Rattle.std.proofs.Common.{◌≡◌, ◌≢◌, ℕ, ◌⊎◌, inl, inr, List, [], ◌∷◌, ◌++◌, Result, Ok, Err, refl, sym, ap, ◌∙◌, subst}
+use Rattle.std.specs.List.{AllByRecursion}
 use Rattle.fs_fraction.specs.Fraction.{Fraction}
 use Rattle.fs_fraction.specs.Number.{Reads, number, too_wide, undefined, foreign}
 use Rattle.fs_fraction.specs.declared.number.NumberFault.{NumberFault}
 use Rattle.fs_fraction.proofs.Readings.{same_read}
-use Rattle.fs_gluing.specs.declared.faults.Fault.{Fault}
 use Rattle.fs_gluing.specs.declared.faults.Fault.TheVariants as faults
 use Rattle.fs_gluing.specs.declared.shapes.Point.{Point}
 use Rattle.fs_job.specs.Pieces.{words_of, IsText}

@@ -2,7 +2,6 @@
 use Rattle.std.proofs.Common.{◌≡◌, ◌≢◌, ℕ, ◌+◌, ◌<◌, ◌≤◌, Bool, true, false, cond, ◌&&◌, Option, None, Some, MatchOption, unwrap_or, List, [], ◌∷◌, ◌++◌, eqb, length, inl, inr, refl, sym, ap, ◌∙◌, subst, arith}
 use denote.Ref.{Bor}
 use Rattle.std.specs.List.{AllByRecursion}
-use Rattle.std.specs.Option.{option_copied}
 use Rattle.fs_job.specs.Pieces.{pieces, begins_with, without_returns, lines_of}
 use Rattle.fs_job.specs.Cuts.{IsCut, DropsReturn}
 use Rattle.fs_quadratic.proofs.Firsts.{All-front}
@@ -50,13 +49,13 @@ without_feed (b ∷ bs) all = kept b bs (begins_free bs all.1) ∙ ap (λ (xs : 
 pub lines-cut : (text front line back : List ℕ) → IsCut 10 text front back → DropsReturn front line → lines_of text ≡ line ∷ lines_of back
 lines-cut text front line back c drops = elim drops [
   | inl e ↦
-    let all = All-front (λ b. b ≢ 10) line (13 ∷ []) (subst_all front (line ++ 13 ∷ []) e c.first) in
-    ap (pieces (λ b. eqb b 10)) (ap without_returns (c.whole ∙ ap (λ (xs : List ℕ). xs ++ 10 ∷ back) e) ∙ with_return line back all)
-    ∙ cut_pieces 10 (line ++ 10 ∷ without_returns back) line (without_returns back) (record { whole = refl; first = all })
+      let all = All-front (λ b. b ≢ 10) line (13 ∷ []) (subst_all front (line ++ 13 ∷ []) e c.first) in
+      ap (pieces (λ b. eqb b 10)) (ap without_returns (c.whole ∙ ap (λ (xs : List ℕ). xs ++ 10 ∷ back) e) ∙ with_return line back all)
+      ∙ cut_pieces 10 (line ++ 10 ∷ without_returns back) line (without_returns back) (record { whole = refl; first = all })
   | inr e ↦
-    let all = subst_all front line e.0 c.first in
-    ap (pieces (λ b. eqb b 10)) (ap without_returns (c.whole ∙ ap (λ (xs : List ℕ). xs ++ 10 ∷ back) e.0) ∙ without_return line back all (λ more f. e.1 more (e.0 ∙ f)))
-    ∙ cut_pieces 10 (line ++ 10 ∷ without_returns back) line (without_returns back) (record { whole = refl; first = all })
+      let all = subst_all front line e.0 c.first in
+      ap (pieces (λ b. eqb b 10)) (ap without_returns (c.whole ∙ ap (λ (xs : List ℕ). xs ++ 10 ∷ back) e.0) ∙ without_return line back all (λ more f. e.1 more (e.0 ∙ f)))
+      ∙ cut_pieces 10 (line ++ 10 ∷ without_returns back) line (without_returns back) (record { whole = refl; first = all })
 ]
   where
     subst_all : (xs ys : List ℕ) → xs ≡ ys → AllByRecursion (λ b. b ≢ 10) xs → AllByRecursion (λ b. b ≢ 10) ys

@@ -1,5 +1,5 @@
 -- The words of a line.
-use Rattle.std.proofs.Common.{◌≡◌, ◌≢◌, ℕ, ◌+◌, ◌-◌, ◌<◌, ◌≤◌, Bool, true, false, cond, List, [], ◌∷◌, ◌++◌, length, filter, refl, sym, ap, ◌∙◌, subst, arith, append-nil, length-append, take-append-drop, take, drop}
+use Rattle.std.proofs.Common.{◌≡◌, ◌≢◌, ℕ, ◌-◌, ◌<◌, ◌≤◌, Bool, true, false, cond, List, [], ◌∷◌, ◌++◌, length, filter, refl, sym, ap, ◌∙◌, subst, arith, append-nil, length-append, take-append-drop, take, drop}
 use Rattle.std.proofs.lemmas.List.{take_rest, take_all}
 use Rattle.std.specs.List.{AllByRecursion}
 use Rattle.fs_job.specs.Pieces.{onto_first, pieces, is_blank, has_bytes, words_of}

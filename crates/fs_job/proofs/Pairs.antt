@@ -1,5 +1,5 @@
 -- Words that are pairs.
-use Rattle.std.proofs.Common.{◌≡◌, ◌≢◌, ℕ, ◌+◌, List, [], ◌∷◌, ◌++◌, eqb, length, map, refl, sym, ap, ◌∙◌, subst, arith, append_assoc, append-nil, length-append}
+use Rattle.std.proofs.Common.{◌≡◌, ◌≢◌, ℕ, ◌+◌, List, [], ◌∷◌, ◌++◌, eqb, length, refl, sym, ap, ◌∙◌, subst, arith, append_assoc, append-nil, length-append}
 use Rattle.fs_job.specs.Pieces.{pieces}
 use Rattle.fs_job.specs.Statement.{Pair, IsPair, ArePairs}
 use Rattle.fs_job.specs.Line.{pair_of_pieces, pair_of, pairs_of}

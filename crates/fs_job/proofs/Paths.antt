@@ -1,11 +1,10 @@
 -- Where the lines of a text lead.
-use Rattle.std.proofs.Common.{◌≡◌, ◌≢◌, ℕ, ◌+◌, ◌<◌, ◌≤◌, ◌⊎◌, inl, inr, List, [], ◌∷◌, ◌++◌, length, zero, suc, refl, sym, ap, ◌∙◌, subst, arith, append_assoc, append-nil, length-append, add-zero}
+use Rattle.std.proofs.Common.{◌≡◌, ◌≢◌, ℕ, ◌+◌, ◌<◌, ◌⊎◌, inl, inr, List, [], ◌∷◌, ◌++◌, length, refl, sym, ap, ◌∙◌, subst, arith, append_assoc, append-nil, length-append, add-zero}
 use Rattle.fs_gluing.specs.declared.faults.Fault.{Fault}
 use Rattle.fs_gluing.specs.declared.faults.Fault.TheVariants as faults
 use Rattle.fs_job.specs.Pieces.{lines_of}
 use Rattle.fs_job.specs.Statement.{Statement, Field_line, Polygon_line, Glue_line, Command_line, End_line}
 use Rattle.fs_job.specs.Grammar.{Draft, Progress, Nothing, Headed, Drafted, Ended, Outcome, Next, Faulty, draft_of, MayCome, Adds, Leads, foreign, blank, headed, unheaded, misplaced, crowded, unread, senseless, taken, Path, ReadsJob, IsFirstFault, at_line, no_header, no_end}
-use Rattle.fs_job.proofs.Lists.{tails_equal}
 use Rattle.fs_job.proofs.Leads.{leads_unique, some_lead, started}
 
 next_injective : (a b : Progress) → Next a ≡ Next b → a ≡ b
@@ -144,8 +143,8 @@ falls_unique n a (line ∷ lines) f g p q = elim p [
   | inr x ↦ elim q [
     | inl y ↦ absurd (next_not_faulty x.0 g (leads_unique n a line (Next x.0) (Faulty g) x.1 y))
     | inr y ↦
-      let same = next_injective x.0 y.0 (leads_unique n a line (Next x.0) (Next y.0) x.1 y.1) in
-      falls_unique (n + 1) y.0 lines f g (subst (λ (m : Progress). Falls (n + 1) m lines f) same x.2) y.2
+        let same = next_injective x.0 y.0 (leads_unique n a line (Next x.0) (Next y.0) x.1 y.1) in
+        falls_unique (n + 1) y.0 lines f g (subst (λ (m : Progress). Falls (n + 1) m lines f) same x.2) y.2
   ]
 ]
 
@@ -160,8 +159,8 @@ falls_and_ends n a [] draft fault p q = elim q [ inl x ↦ ended_not_nothing dra
 falls_and_ends n a (line ∷ lines) draft fault p q = elim q [
   | inl x ↦ next_not_faulty p.0 fault (leads_unique n a line (Next p.0) (Faulty fault) p.1 x)
   | inr x ↦
-    let same = next_injective p.0 x.0 (leads_unique n a line (Next p.0) (Next x.0) p.1 x.1) in
-    falls_and_ends (n + 1) x.0 lines draft fault (subst (λ (m : Progress). Path (n + 1) m lines (Ended draft)) same p.2) x.2
+      let same = next_injective p.0 x.0 (leads_unique n a line (Next p.0) (Next x.0) p.1 x.1) in
+      falls_and_ends (n + 1) x.0 lines draft fault (subst (λ (m : Progress). Path (n + 1) m lines (Ended draft)) same p.2) x.2
 ]
 
 pub not_both : (bytes : List ℕ) (draft : Draft) (fault : Fault) → ReadsJob bytes draft → ¬ IsFirstFault bytes fault

@@ -1,8 +1,7 @@
 -- The numbers of a polygon line, read from left to right.
-use Rattle.std.proofs.Common.{◌≡◌, ◌≢◌, ℕ, List, [], ◌∷◌, ◌++◌, Option, None, Some, MatchOption, unwrap_or, Result, Ok, Err, IfErr, eqb, length, map, refl, sym, ap, ◌∙◌, subst, append_assoc, append-nil, arith}
+use Rattle.std.proofs.Common.{◌≡◌, ◌≢◌, ℕ, List, [], ◌∷◌, ◌++◌, Option, None, Some, MatchOption, unwrap_or, Ok, Err, eqb, length, refl, sym, ap, ◌∙◌, subst, append_assoc, append-nil, arith}
 use denote.Ref.{Bor}
-use Rattle.std.specs.List.{AllByRecursion, flat_map}
-use Rattle.fs_quadratic.proofs.Firsts.{All-append}
+use Rattle.std.specs.List.{AllByRecursion}
 use Rattle.fs_fraction.specs.Fraction.{Fraction}
 use Rattle.fs_fraction.specs.Number.{Reads}
 use Rattle.fs_fraction.specs.declared.number.NumberFault.{NumberFault}
@@ -10,7 +9,7 @@ use Rattle.fs_gluing.specs.declared.shapes.Point.{Point}
 use Rattle.fs_job.specs.Pieces.{pieces}
 use Rattle.fs_job.specs.Statement.{Pair, IsPair, ArePairs, Polygon_line, numbers}
 use Rattle.fs_job.specs.Grammar.{ArePoints, IsNumber, FirstUnread}
-use Rattle.fs_job.specs.Line.{pair_of_pieces, pair_of, pairs_of}
+use Rattle.fs_job.specs.Line.{pair_of, pairs_of}
 use Rattle.fs_job.specs.Cuts.{IsCut}
 use Rattle.fs_job.proofs.Lists.{heads_equal, tails_equal}
 use Rattle.fs_job.proofs.OfPieces.{no_separator, cut_pieces, one_piece}

@@ -1,11 +1,10 @@
 -- Words show one statement at most, and which words show none.
-use Rattle.std.proofs.Common.{◌≡◌, ◌≢◌, ℕ, ◌≤◌, List, [], ◌∷◌, eqb, refl, sym, ap, ◌∙◌, subst, arith}
+use Rattle.std.proofs.Common.{◌≡◌, ◌≢◌, ℕ, List, [], ◌∷◌, eqb, refl, sym, ap, ◌∙◌, subst, arith}
 use Rattle.std.specs.Prelude.{codes}
 use Rattle.fs_plane.specs.declared.corners.Corner.{Corner}
-use Rattle.fs_job.specs.declared.job.Command.{Command}
 use Rattle.fs_job.specs.declared.job.Command.TheVariants.{Check}
 use Rattle.fs_job.specs.Pieces.{pieces}
-use Rattle.fs_job.specs.Statement.{SpellsNumeral, SpellsCorner, Pair, ArePairs, Statement, Field_line, Polygon_line, Glue_line, Command_line, End_line, Shows, SpellsCommand}
+use Rattle.fs_job.specs.Statement.{SpellsNumeral, SpellsCorner, ArePairs, Statement, Field_line, Polygon_line, Glue_line, Command_line, End_line, Shows}
 use Rattle.fs_job.specs.Line.{ShowsField, ShowsGlue}
 use Rattle.fs_job.proofs.Lists.{heads_equal, tails_equal}
 use Rattle.fs_job.proofs.Digits.{unique_numeral, numeral_along}

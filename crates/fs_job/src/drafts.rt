@@ -29,12 +29,14 @@ pub enum Stage {
     Ended(DraftJob),
 }
 
+// The line has no form that may come there.
 fn bad_line(number: u32) -> JobStop
     ensures { result ≡ JobStop.Fault (Fault.BadLine number) }
 {
     JobStop::Fault(Fault::BadLine { line: number })
 }
 
+// A limit leaves no room for the line.
 fn too_many(number: u32) -> JobStop
     ensures { result ≡ JobStop.Fault (Fault.TooMany number) }
 {
@@ -54,7 +56,13 @@ pub fn begin(alloc: Global, number: u32, line: Line<'_>) -> Result<Stage, JobSto
     }
 }
 
-fn add_polygon(alloc: Global, mut draft: DraftJob, number: u32, pairs: Pairs<'_>) -> Result<Stage, JobStop>
+// A polygon line, the forms of whose words are known.
+fn add_polygon(
+    alloc: Global,
+    mut draft: DraftJob,
+    number: u32,
+    pairs: Pairs<'_>,
+) -> Result<Stage, JobStop>
     requires pairs { ArePairs (words_of pairs.words.now) (pairs_of (words_of pairs.words.now)) }
     requires count { pairs.count ≡ length (words_of pairs.words.now) }
     ensures { Comes (Follows number (Drafted (drafted draft)) (Polygon_line (pairs_of (words_of pairs.entry.words.now)))) result }
@@ -71,6 +79,7 @@ fn add_polygon(alloc: Global, mut draft: DraftJob, number: u32, pairs: Pairs<'_>
     Ok(Stage::Drafted(draft))
 }
 
+// A glue line.
 fn add_glue(mut draft: DraftJob, number: u32, one: Corner, two: Corner) -> Result<Stage, JobStop>
     ensures { Comes (Follows number (Drafted (drafted draft)) (Glue_line one two)) result }
 {
@@ -85,6 +94,7 @@ fn add_glue(mut draft: DraftJob, number: u32, one: Corner, two: Corner) -> Resul
     Ok(Stage::Drafted(draft))
 }
 
+// A command line.
 fn add_command(mut draft: DraftJob, number: u32, command: Command) -> Result<Stage, JobStop>
     ensures { Comes (Follows number (Drafted (drafted draft)) (Command_line command)) result }
 {
@@ -98,6 +108,7 @@ fn add_command(mut draft: DraftJob, number: u32, command: Command) -> Result<Sta
     Ok(Stage::Drafted(draft))
 }
 
+// The last line.
 fn end(draft: DraftJob, number: u32) -> Result<Stage, JobStop>
     ensures { Comes (Follows number (Drafted (drafted draft)) End_line) result }
 {
@@ -108,7 +119,12 @@ fn end(draft: DraftJob, number: u32) -> Result<Stage, JobStop>
 }
 
 // A line behind the field.
-pub fn add_line(alloc: Global, draft: DraftJob, number: u32, line: Line<'_>) -> Result<Stage, JobStop>
+pub fn add_line(
+    alloc: Global,
+    draft: DraftJob,
+    number: u32,
+    line: Line<'_>,
+) -> Result<Stage, JobStop>
     requires { IsCounted line }
     ensures { Comes (Follows number (Drafted (drafted draft)) (statement_of line.entry)) result }
 {

@@ -69,7 +69,7 @@ fn polygon_line(words: &[u8]) -> Option<Pairs<'_>>
     ensures { MatchOption result
         ((pairs : List Pair) → ¬ ArePairs (words_of words.now) pairs)
         (λ pairs. (pairs.words.now ≡ words.now) × ArePairs (words_of words.now) (pairs_of (words_of words.now))
-            × (pairs.count ≡ length (words_of words.now))) }
+        × (pairs.count ≡ length (words_of words.now))) }
 {
     let mut count = 0;
     let mut rest = words;
@@ -98,7 +98,8 @@ pub fn is_header(line: &[u8]) -> bool
 {
     match next_word(line) {
         Some((word, rest)) => {
-            word == b"flatsurf".as_slice() && only_word(rest).is_some_and(|version| version == b"1".as_slice())
+            word == b"flatsurf".as_slice()
+                && only_word(rest).is_some_and(|version| version == b"1".as_slice())
         }
         None => false,
     }

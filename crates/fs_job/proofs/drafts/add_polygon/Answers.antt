@@ -1,8 +1,7 @@
-use Rattle.std.proofs.Common.{◌≡◌, ◌<◌, ◌+◌, ◌≤◌, [], length, sym, ap, ◌∙◌, arith, ◌∷◌, length-append}
+use Rattle.std.proofs.Common.{◌<◌, ◌+◌, ◌≤◌, [], length, sym, ap, ◌∙◌, arith, ◌∷◌, length-append}
 use Rattle.std.proofs.lemmas.Result.{err_from_is_err_and}
 use Rattle.fs_job.specs.Pieces.{words_of}
 use Rattle.fs_job.specs.Statement.{Polygon_line}
-use Rattle.fs_job.specs.Grammar.{HasRoom}
 use Rattle.fs_job.specs.Line.{pairs_of}
 use Rattle.fs_job.specs.Stage.{drafted}
 use Rattle.fs_job.proofs.Lists.{is_nil}

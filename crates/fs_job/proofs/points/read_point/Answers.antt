@@ -1,6 +1,4 @@
-use Rattle.std.proofs.Common.{◌≡◌, Err, Ok, subst}
 use Rattle.std.proofs.lemmas.Result.{err_from_is_err_and}
-use Rattle.fs_fraction.specs.Number.{Reads}
 use Rattle.fs_job.specs.Line.{pair_of}
 use Rattle.fs_job.proofs.Read.{first_unread, second_unread}
 use Rattle.fs_job.proofs.points.read_point.Goals as goal

@@ -1,5 +1,3 @@
-use Rattle.std.proofs.Common.{sym, ap, ◌∙◌}
-use denote.Ref.{Bor}
 use Rattle.fs_job.proofs.Read.{halves}
 use Rattle.fs_job.proofs.points.split_pair.Goals as goal
 

@@ -1,7 +1,6 @@
-use Rattle.std.proofs.Common.{◌≡◌, ◌+◌, ◌≤◌, ◌∷◌, length, inr, refl, sym, ap, ◌∙◌, arith}
+use Rattle.std.proofs.Common.{◌≡◌, ◌+◌, length, inr, refl, ap, ◌∙◌, arith}
 use Rattle.std.proofs.lemmas.Result.{err_from_is_err_and}
 use Rattle.fs_gluing.specs.declared.faults.Fault.TheVariants.{NoEnd}
-use Rattle.fs_job.specs.Pieces.{lines_of}
 use Rattle.fs_job.specs.Stage.{progress_of}
 use Rattle.fs_job.proofs.OfLines.{lines_left, bytes_left, none_left, next_lines, fewer_left}
 use Rattle.fs_job.proofs.Paths.{led_further, end_missing, ready_after}
@@ -24,13 +23,16 @@ loop-rest-preserved c =
       led = led_further c.args.bytes.now (lines_left c.loop-rest.rest) (lines_left c.next_line.result.1) c.next_line.result.0.now n (progress_of c.loop-rest.stage) (progress_of c.in_ok-stage.stage) i.led next c.in_ok-stage.ensures;
       ready = ready_after (n + 1) (progress_of c.loop-rest.stage) c.next_line.result.0.now (progress_of c.in_ok-stage.stage) i.ready c.in_ok-stage.ensures;
       few =
-        let left : bytes_left c.loop-rest.rest ≡ length c.in-Some.text.now + 1 = ap bytes_left c.in-Some.is in
-        let fewer = fewer_left c.in-Some.text.now c.next_line.result.0.now c.next_line.result.1 c.next_line.ensures in
-        let few = i.few in
-        omega arith;
+          let left : bytes_left c.loop-rest.rest ≡ length c.in-Some.text.now + 1 = ap bytes_left c.in-Some.is in
+          let fewer = fewer_left c.in-Some.text.now c.next_line.result.0.now c.next_line.result.1 c.next_line.ensures in
+          let few = i.few in
+          omega arith;
     }
 
 pub returns-clause-fault : goal.returns-clause-fault
-returns-clause-fault c = inr (NoEnd, refl,
+returns-clause-fault c = inr (
+  NoEnd,
+  refl,
   end_missing c.args.bytes.now (lines_left c.loop-rest.rest) c.loop-rest.number (progress_of c.loop-rest.stage) c.loop-rest.invariant.led (none_left c.loop-rest.rest c.in_default.not-Some)
-  (not_start c.loop-rest.stage c.in_default-stage.not-Start) (not_ended c.loop-rest.stage c.in_default-stage.not-Ended))
+      (not_start c.loop-rest.stage c.in_default-stage.not-Start) (not_ended c.loop-rest.stage c.in_default-stage.not-Ended),
+)
