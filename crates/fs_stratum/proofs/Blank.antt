@@ -131,8 +131,5 @@ blank_more {X} items rows longer row polygons i n before l is row_is longer_is =
     ap blank (take_more polygons i r.value l ∙ ap (λ (p : List X). take i polygons ++ p ∷ []) here) ∙ map-append (λ (polygon : List X). replicate (length polygon) false) (take i polygons) (r.value ∷ []) in
     left ∙ (λ k. before k ++ row_blank k ∷ []) ∙ sym right
 
-pub blank_none : {X W : Type 0} (items : W → List Bool) (rows : List W) (polygons : List (List X)) → rows ≡ [] → map items rows ≡ blank (take 0 polygons)
-blank_none items rows polygons e = ap (map items) e
-
 pub blank_all : {X W : Type 0} (items : W → List Bool) (rows : List W) (polygons : List (List X)) (n : ℕ) → map items rows ≡ blank (take n polygons) → length polygons ≤ n → AreUnmarked polygons (map items rows)
 blank_all items rows polygons n e l = subst (AreUnmarked polygons) (sym (e ∙ ap blank (take_all n polygons l))) (blank_unmarked polygons)

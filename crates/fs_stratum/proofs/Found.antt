@@ -64,9 +64,6 @@ of_less a b h = elim (cases_order a.polygon b.polygon) [
   ]
 ]
 
-pub less_itself : (c : Corner) → ¬ (corner_cmp c c ≡ Less)
-less_itself c h = elim (of_less c c h) [ inl l ↦ absurd (omega arith) | inr k ↦ let l = k.1 in absurd (omega arith) ]
-
 -- the next corner of a row
 to_next : (e : Corner) (i j : ℕ) → corner_cmp e (corner i j) ≡ Less → corner_cmp e (corner i (j + 1)) ≡ Less
 to_next e i j h = less_of e (corner i (j + 1)) (elim (of_less e (corner i j) h) [ inl l ↦ inl l | inr k ↦ inr (k.0, let l = k.1 in omega arith) ])
