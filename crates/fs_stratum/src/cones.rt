@@ -87,6 +87,7 @@ fn go_round(surface: &Surface, first: Corner, marks: &mut Marks) -> u32
 /// The genus of a surface with these vertices: 1 plus half the sum of k - 1.
 pub fn genus(cones: &[Cone]) -> u32
     ghost surface: { GluedPolygons }
+    requires surface { IsSurface surface }
     requires cones { AreCones surface cones.now }
     requires genus { (g : ℕ) × HasGenus surface cones.now g }
     ensures { HasGenus surface cones.now result }
