@@ -25,7 +25,9 @@ fn expect(
     lines: &str,
     cones: &[(u16, u16, u32)],
 ) -> Result<(), Fail> {
-    let found = classes(alloc, &surface(alloc, d, lines)?).ok().ok_or("no memory")?;
+    let found = classes(alloc, &surface(alloc, d, lines)?)
+        .ok()
+        .ok_or("no memory")?;
     assert_eq!(rt; found.len(), cones.len(), "{lines}");
     for (cone, (polygon, side, k)) in found.as_slice().iter().zip(cones) {
         assert_eq!(rt; cone.first.polygon, *polygon, "{lines}");
@@ -40,7 +42,11 @@ fn expect(
 #[test]
 fn cone_numbers(rt: HostRuntime) -> Result<(), Fail> {
     for (d, lines, cones) in [
-        (2, "polygon 1,0 0,1 -1,0 0,-1\nglue 0.0 0.2\nglue 0.1 0.3", [(0, 0, 1)].as_slice()),
+        (
+            2,
+            "polygon 1,0 0,1 -1,0 0,-1\nglue 0.0 0.2\nglue 0.1 0.3",
+            [(0, 0, 1)].as_slice(),
+        ),
         (
             2,
             "polygon 1,0 0,1 -1,0 0,-1\npolygon 1,0 0,1 -1,0 0,-1\nglue 0.1 1.3\nglue 1.1 0.3\nglue 0.0 0.2\nglue 1.0 1.2",
