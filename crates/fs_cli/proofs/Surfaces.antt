@@ -1,5 +1,5 @@
 -- There is a surface of each job whose shape passes all tests.
-use Rattle.std.proofs.Common.{◌≢◌, ℕ, ◌+◌, ◌<◌, ℤ, pos, ◌<ℤ◌, Option, Some, None, cond, List, [], ◌∷◌, ◌++◌, length, map, refl, sym, subst, arith, append-nil, append_assoc}
+use Rattle.std.proofs.Common.{◌≢◌, ℕ, ◌+◌, ◌<◌, pos, ◌<ℤ◌, Option, Some, None, cond, List, [], ◌∷◌, ◌++◌, length, map, refl, sym, subst, arith, append-nil, append_assoc}
 use Rattle.std.proofs.lemmas.Int.{ints}
 use Rattle.std.specs.BTreeMap.{is_at}
 use Rattle.std.specs.Option.{IsSome}

@@ -1,10 +1,9 @@
 -- What a call wrote, from what the calls in it wrote.
-use Rattle.std.proofs.Common.{◌≡◌, ◌≢◌, ℕ, ◌<◌, ◌≤◌, ◌⊎◌, List, [], ◌++◌, Option, None, Some, IfSome, Ok, Err, length, refl, sym, ap, ◌∙◌, subst, arith, inl, inr, append-nil}
+use Rattle.std.proofs.Common.{◌≡◌, ◌≢◌, ℕ, ◌≤◌, ◌⊎◌, List, [], ◌++◌, Option, None, Some, IfSome, Ok, Err, length, refl, sym, ap, ◌∙◌, subst, inl, inr, append-nil}
 use Rattle.std.specs.Io.KnownBytes.{Consumes, Appends, IsAtEnd}
 use Rattle.std.proofs.KnownBytes.{Appends-nil}
 use Rattle.fs_io.specs.Whole.{most_bytes}
 use Rattle.fs_gluing.specs.declared.faults.Fault.{Fault}
-use Rattle.fs_gluing.specs.declared.faults.Fault.TheVariants.{TooLong}
 use Rattle.fs_gluing.specs.declared.faults.BuildStop.{BuildStop}
 use Rattle.fs_gluing.specs.declared.faults.BuildStop.TheVariants as stops
 use Rattle.fs_gluing.specs.FirstFault.{Judges}
@@ -16,7 +15,7 @@ use Rattle.fs_job.specs.Grammar.{Draft, ReadsJob, IsFirstFault}
 use Rattle.fs_report.specs.Text.{fault_text}
 use Rattle.fs_cli.specs.declared.outcome.Status.{Status}
 use Rattle.fs_cli.specs.declared.outcome.Status.TheVariants as status
-use Rattle.fs_cli.specs.Answer.{IsAnswered, Too_long, At_fault, Not_built, Answered, BeginsAnswer, shape_of, stop_text, stop_status, texts, status_of}
+use Rattle.fs_cli.specs.Answer.{IsAnswered, At_fault, Not_built, Answered, BeginsAnswer, shape_of, stop_text, stop_status, texts, status_of}
 use Rattle.fs_cli.specs.Writing.{Writes, WritesAnswer}
 use Rattle.fs_cli.proofs.Answered.{JobLaw, begins_each}
 
