@@ -3,5 +3,7 @@
 
 mod cones;
 mod marks;
+#[cfg(test)]
+mod tests;
 
 pub use cones::{Cone, classes, genus};
