@@ -1,6 +1,6 @@
 use fs_gluing::{Surface, build};
 use fs_job::{Form, read_job};
-use fs_stratum::classes;
+use fs_stratum::{classes, genus};
 use std::alloc::Global;
 use std::process::Abort;
 use std::test::Fail;
@@ -17,13 +17,15 @@ fn surface(alloc: Global, d: u16, lines: &str) -> Result<Surface, Fail> {
     Ok(built)
 }
 
-// That the vertices of the surface of these lines have these least corners and cone numbers.
+// That the vertices of the surface of these lines have these least corners and cone numbers, and
+// that this is its genus.
 fn expect(
     rt: &impl Abort,
     alloc: Global,
     d: u16,
     lines: &str,
     cones: &[(u16, u16, u32)],
+    handles: u32,
 ) -> Result<(), Fail> {
     let found = classes(alloc, &surface(alloc, d, lines)?)
         .ok()
@@ -34,6 +36,7 @@ fn expect(
         assert_eq!(rt; cone.first.side, *side, "{lines}");
         assert_eq!(rt; cone.k, *k, "{lines}");
     }
+    assert_eq!(rt; genus(found.as_slice()), handles, "{lines}");
     Ok(())
 }
 
@@ -41,44 +44,51 @@ fn expect(
 // opposite, and the L of three squares.
 #[test]
 fn cone_numbers(rt: HostRuntime) -> Result<(), Fail> {
-    for (d, lines, cones) in [
+    for (d, lines, cones, handles) in [
         (
             2,
             "polygon 1,0 0,1 -1,0 0,-1\nglue 0.0 0.2\nglue 0.1 0.3",
             [(0, 0, 1)].as_slice(),
+            1,
         ),
         (
             2,
             "polygon 1,0 0,1 -1,0 0,-1\npolygon 1,0 0,1 -1,0 0,-1\nglue 0.1 1.3\nglue 1.1 0.3\nglue 0.0 0.2\nglue 1.0 1.2",
             [(0, 0, 1), (0, 1, 1)].as_slice(),
+            1,
         ),
         (
             3,
             "polygon 1,0 1/2,1/2r -1/2,1/2r -1,0 -1/2,-1/2r 1/2,-1/2r\nglue 0.0 0.3\nglue 0.1 0.4\nglue 0.2 0.5",
             [(0, 0, 1), (0, 1, 1)].as_slice(),
+            1,
         ),
         (
             2,
             "polygon 1,0 1/2r,1/2r 0,1 -1/2r,1/2r -1,0 -1/2r,-1/2r 0,-1 1/2r,-1/2r\nglue 0.0 0.4\nglue 0.1 0.5\nglue 0.2 0.6\nglue 0.3 0.7",
             [(0, 0, 3)].as_slice(),
+            2,
         ),
         (
             5,
             "polygon -3/4+1/4r,1 -1/2,-1/2+1/2r 1/2-1/2r,0 -1/2,1/2-1/2r -3/4+1/4r,-1 3/4-1/4r,-1 1/2,1/2-1/2r -1/2+1/2r,0 1/2,-1/2+1/2r 3/4-1/4r,1\nglue 0.0 0.5\nglue 0.1 0.6\nglue 0.2 0.7\nglue 0.3 0.8\nglue 0.4 0.9",
             [(0, 0, 2), (0, 1, 2)].as_slice(),
+            2,
         ),
         (
             5,
             "polygon -5/4+1/4r,1 -1/2r,-3/2+1/2r 0,1-1r 1/2r,-3/2+1/2r 5/4-1/4r,1\npolygon 5/4-1/4r,-1 1/2r,3/2-1/2r 0,-1+1r -1/2r,3/2-1/2r -5/4+1/4r,-1\nglue 0.0 1.0\nglue 0.1 1.1\nglue 0.2 1.2\nglue 0.3 1.3\nglue 0.4 1.4",
             [(0, 0, 3)].as_slice(),
+            2,
         ),
         (
             2,
             "polygon 1,0 0,1 -1,0 0,-1\npolygon 1,0 0,1 -1,0 0,-1\npolygon 1,0 0,1 -1,0 0,-1\nglue 0.1 1.3\nglue 1.1 0.3\nglue 0.2 2.0\nglue 2.2 0.0\nglue 1.2 1.0\nglue 2.1 2.3",
             [(0, 0, 3)].as_slice(),
+            2,
         ),
     ] {
-        expect(&rt, rt.alloc(), d, lines, cones)?;
+        expect(&rt, rt.alloc(), d, lines, cones, handles)?;
     }
     Ok(())
 }

@@ -86,11 +86,8 @@ fn go_round(surface: &Surface, first: Corner, marks: &mut Marks) -> u32
 
 /// The genus of a surface with these vertices: 1 plus half the sum of k - 1.
 pub fn genus(cones: &[Cone]) -> u32
-    ghost surface: { GluedPolygons }
-    requires surface { IsSurface surface }
-    requires cones { AreCones surface cones.now }
-    requires genus { (g : ℕ) × HasGenus surface cones.now g }
-    ensures { HasGenus surface cones.now result }
+    requires { (s : GluedPolygons) × IsSurface s × AreCones s cones.now × ((g : ℕ) × HasGenus s cones.now g) }
+    ensures { (s : GluedPolygons) → (g : ℕ) → HasGenus s cones.now g → result ≡ g }
 {
     let mut twice = 2;
     for cone in cones {

@@ -3,4 +3,4 @@ use Rattle.fs_stratum.specs.declared.cones.Cone.{Cone}
 use Rattle.fs_stratum.proofs.cones.genus.Given as goal
 
 abbrev pub invariant-loop-cone : goal.invariant-loop-cone
-invariant-loop-cone g l = l.twice + l.cone-index ≡ 2 + sum_by (λ (cone : Cone). cone.k) (take l.cone-index l.cones)
+invariant-loop-cone l = l.twice + l.cone-index ≡ 2 + sum_by (λ (cone : Cone). cone.k) (take l.cone-index l.cones)
