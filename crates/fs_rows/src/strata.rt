@@ -1,19 +1,25 @@
+ghost use Rattle.std.specs.Prelude.{◌≤◌, length};
+
 use fs_gluing::{Surface, build};
-use fs_job::{Form, read_job};
+use fs_job::{Form, Job, read_job};
 use fs_stratum::{classes, genus};
-use std::alloc::Global;
+use std::alloc::{AllocError, Global};
 use std::process::Abort;
 use std::test::Fail;
 
-// The surface of a job with these polygon and glue lines.
-fn surface(alloc: Global, d: u16, lines: &str) -> Result<Surface, Fail> {
-    let text = format!(in alloc; "flatsurf 1\nfield {d}\n{lines}\ncheck\nend\n")?;
-    if text.len() > 1_048_576 {
-        return Err(Fail::from("too long"));
-    }
-    let job = read_job(alloc, text.as_bytes()).ok().ok_or("no job")?;
-    let Form::Polygons(shape) = job.form;
-    let built = build(alloc, job.field, &shape).ok().ok_or("no surface")?;
+// A job with these polygon and glue lines.
+fn job_of(alloc: Global, d: u16, lines: &str) -> Result<String, AllocError> {
+    format!(in alloc; "flatsurf 1\nfield {d}\n{lines}\ncheck\nend\n")
+}
+
+// The surface of a job.
+fn surface(alloc: Global, text: &[u8]) -> Result<Surface, Fail>
+    requires { length text.now ≤ 1048576 }
+{
+    let job = read_job(alloc, text).ok().ok_or("no job")?;
+    let Job { field, form, .. } = job;
+    let Form::Polygons(shape) = form;
+    let built = build(alloc, field, &shape).ok().ok_or("no surface")?;
     Ok(built)
 }
 
@@ -27,9 +33,10 @@ fn expect(
     cones: &[(u16, u16, u32)],
     handles: u32,
 ) -> Result<(), Fail> {
-    let found = classes(alloc, &surface(alloc, d, lines)?)
-        .ok()
-        .ok_or("no memory")?;
+    let text = job_of(alloc, d, lines)?;
+    assert!(rt; text.len() <= 1_048_576);
+    let surface = surface(alloc, text.as_bytes())?;
+    let found = classes(alloc, &surface).ok().ok_or("no memory")?;
     assert_eq!(rt; found.len(), cones.len(), "{lines}");
     for (cone, (polygon, side, k)) in found.as_slice().iter().zip(cones) {
         assert_eq!(rt; cone.first.polygon, *polygon, "{lines}");
