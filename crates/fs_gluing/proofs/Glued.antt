@@ -51,7 +51,7 @@ rows_sum p i (polygon ∷ polygons) =
 
 -- the polygons are closed and convex
 
-All-from_map : {X Y : Type 0} (f : X → Y) (P : Y → Type 0) (xs : List X) → AllByRecursion P (map f xs) → AllByRecursion (λ x. P (f x)) xs
+pub All-from_map : {X Y : Type 0} (f : X → Y) (P : Y → Type 0) (xs : List X) → AllByRecursion P (map f xs) → AllByRecursion (λ x. P (f x)) xs
 All-from_map f P [] a = tt
 All-from_map f P (x ∷ xs) a = (a.0, All-from_map f P xs a.1)
 
@@ -142,7 +142,7 @@ row_holds P i j (x ∷ polygon) (suc k) a h e =
     let same : j + 1 + k ≡ j + suc k = omega arith in
     subst (λ n. P (record { polygon = i; side = n })) same (row_holds P i (j + 1) polygon k a h.1 e)
 
-rows_hold : (P : Corner → Type 0) (i : ℕ) (polygons : List (List V2)) (k j : ℕ) (a : V2) → AllByRecursion P (sides_from i polygons)
+pub rows_hold : (P : Corner → Type 0) (i : ℕ) (polygons : List (List V2)) (k j : ℕ) (a : V2) → AllByRecursion P (sides_from i polygons)
     → option_and_then (λ polygon. slice_get polygon j) (slice_get polygons k) ≡ Some a → P (record { polygon = i + k; side = j })
 rows_hold P i [] k j a h e = cc
 rows_hold P i (polygon ∷ polygons) zero j a h e =

@@ -91,7 +91,7 @@ at_mapped : {X Y : Type 0} (f : X → Y) (o : Option (List X)) (n : ℕ) → opt
 at_mapped f None n = refl
 at_mapped f (Some row) n = slice_get-map f row n
 
-at_side-map : {X Y : Type 0} (f : X → Y) (rows : List (List X)) (c : Corner) → at_side (map (map f) rows) c ≡ option_map f (at_side rows c)
+pub at_side-map : {X Y : Type 0} (f : X → Y) (rows : List (List X)) (c : Corner) → at_side (map (map f) rows) c ≡ option_map f (at_side rows c)
 at_side-map f rows c = ap (option_and_then (λ row. slice_get row c.side)) (slice_get-map (map f) rows c.polygon) ∙ at_mapped f (slice_get rows c.polygon) c.side
 
 pub vectors_in_size : (shape : Shape) (polygons : List (List Side)) → map side_vectors polygons ≡ polygons_of shape → (c : Corner) (point : Point) (side : Side)

@@ -15,3 +15,4 @@ pub mod Search
 pub mod Glued
 pub mod InSize
 pub mod Judged
+pub mod OneSurface
