@@ -1,5 +1,5 @@
 -- The lines that are answered. Each ends with one line feed.
-use Rattle.std.specs.Prelude.{ℕ, Bool, false, List, [], ◌∷◌, ◌++◌, length, sum_by, codes}
+use Rattle.std.specs.Prelude.{◌≡◌, ℕ, Bool, false, List, [], ◌∷◌, ◌++◌, length, sum_by, codes}
 use Rattle.std.specs.Fmt.{decimal}
 use Rattle.fs_plane.specs.declared.corners.Corner.{Corner}
 use Rattle.fs_plane.specs.declared.sites.Site.{Site}
@@ -47,10 +47,6 @@ build_text site = codes "build overflow " ++ site_text site ++ end
 abbrev pub check_text : ℕ → ℕ → List ℕ
 check_text polygons sides = codes "check polygons " ++ decimal polygons ++ codes " sides " ++ decimal sides ++ end
 
--- what a command answers of a surface
-abbrev pub command_text : GluedPolygons → Command → List ℕ
-command_text s Check = check_text (length s.polygons) (sum_by length s.polygons)
-
--- whether that is no whole answer
-abbrev pub is_partial : GluedPolygons → Command → Bool
-is_partial s Check = false
+-- what a command answers of a surface: this text, and whether it stands in the place of the whole answer
+abbrev pub Answers : GluedPolygons → Command → List ℕ → Bool → Type 0
+Answers s Check text partial = (text ≡ check_text (length s.polygons) (sum_by length s.polygons)) × (partial ≡ false)

@@ -1,5 +1,5 @@
 ghost use Rattle.std.specs.Prelude.{◌≡◌, ◌≤◌, length, sum_by, IfOk, string_bytes};
-ghost use Rattle.fs_report.specs.Text.{check_text, command_text, is_partial};
+ghost use Rattle.fs_report.specs.Text.{check_text, Answers};
 
 use fs_fraction::NoMemory;
 use fs_gluing::Surface;
@@ -52,8 +52,7 @@ pub fn find_answer(
 ) -> Result<Answer, NoMemory>
     requires least { 1 ≤ budget }
     requires most { budget ≤ 1000000 }
-    ensures text { IfOk result (λ answer. string_bytes answer.text ≡ command_text surface.now command.now) }
-    ensures partial { IfOk result (λ answer. answer.partial ≡ is_partial surface.now command.now) }
+    ensures { IfOk result (λ answer. Answers surface.now command.now (string_bytes answer.text) answer.partial) }
 {
     let _ = budget;
     match command {
