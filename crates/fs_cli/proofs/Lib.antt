@@ -1,5 +1,5 @@
-pub mod Answered
 pub mod Texts
+pub mod Answered
 pub mod Written
 pub mod Drafts
 pub mod Surfaces

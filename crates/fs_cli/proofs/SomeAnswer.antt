@@ -9,6 +9,7 @@ use Rattle.fs_cli.specs.declared.outcome.Status.{Status}
 use Rattle.fs_cli.specs.Answer.{IsAnswered, Too_long, At_fault, Not_built, Answered, shape_of}
 use Rattle.fs_cli.proofs.Answered.{JobLaw}
 use Rattle.fs_cli.proofs.Surfaces.{surface_of_job}
+use Rattle.fs_cli.proofs.Texts.{some_all}
 
 -- a shape passes all tests, or there is a first that it fails
 module _ {X : Type 0} (P : X → Type 0) (xs : List X) (no_first : (x : X) → ¬ IsFirstWithout P xs x) (not_all : ¬ AllByRecursion P xs) where
@@ -27,7 +28,9 @@ module _ (law : JobLaw) where
       by_length (λ few. law.not_neither bytes
       (λ draft reads. first_or_all (PassesOf draft.d (shape_of draft)) (tests_of (shape_of draft))
       (λ test first. none _ _ (Not_built draft test few reads first refl refl))
-      (λ all. let s = surface_of_job bytes draft reads all in none _ _ (Answered draft s.0 few reads s.1 s.2 all refl refl)))
+      (λ all.
+      let s = surface_of_job bytes draft reads all in
+      some_all s.0 s.1 draft.commands (λ output partial texts. none _ _ (Answered draft s.0 partial few reads s.1 s.2 all texts refl))))
       (λ fault at. none _ _ (At_fault fault few at refl refl)))
     where
       by_length : ¬ (length bytes ≤ most_bytes) → ⊥

@@ -22,16 +22,12 @@ use Rattle.fs_gluing.specs.Scaling.{PlacedSide, placed, placed_row, placed_from,
 use Rattle.fs_gluing.specs.Shape.{IsWithinLimits, HasShape, glued_sides, polygons_of}
 use Rattle.fs_gluing.specs.Surface.{GluedPolygons, IsSurface, AreNeighbours}
 use Rattle.fs_gluing.proofs.Checks.{All-weaker}
-use Rattle.fs_gluing.proofs.Glued.{IsPaired, rows_length, joined_neighbours}
+use Rattle.fs_gluing.proofs.Glued.{IsPaired, All-from_map, rows_length, joined_neighbours}
 use Rattle.fs_gluing.proofs.Judged.{IsScaled, is_scaled, passed_on, built}
 use Rattle.fs_gluing.proofs.Pairs.{partners_more, listed_has_partner}
 use Rattle.fs_job.specs.Grammar.{Draft, ReadsJob}
 use Rattle.fs_cli.specs.Answer.{shape_of}
 use Rattle.fs_cli.proofs.Drafts.{HasDenominators, job_known}
-
-All-from_map : {X Y : Type 0} (f : X → Y) (P : Y → Type 0) (xs : List X) → AllByRecursion P (map f xs) → AllByRecursion (λ x. P (f x)) xs
-All-from_map f P [] a = tt
-All-from_map f P (x ∷ xs) a = (a.0, All-from_map f P xs a.1)
 
 -- ---- the common denominator
 

@@ -1,94 +1,182 @@
--- The texts of commands, written one behind the other.
-use Rattle.std.proofs.Common.{◌≡◌, ◌≢◌, ℕ, ◌+◌, ◌<◌, ◌≤◌, Bool, true, false, cond, ◌||◌, List, [], ◌∷◌, ◌++◌, Option, length, take, drop, get_or, refl, sym, ap, ◌∙◌, subst, arith, inl, inr, append-nil, append_assoc, take-append-drop}
+-- The answers of commands, written one behind the other.
+use Rattle.std.proofs.Common.{◌≡◌, ◌≢◌, ℕ, ◌+◌, ◌<◌, ◌≤◌, Bool, true, false, ◌||◌, List, [], ◌∷◌, ◌++◌, Option, length, take, drop, get_or, refl, sym, ap, ◌∙◌, subst, arith, inl, inr, append-nil, append_assoc, take-append-drop}
 use Rattle.std.specs.Io.KnownBytes.{Appends}
-use Rattle.std.specs.List.{list_any}
 use Rattle.std.proofs.KnownBytes.{Appends-trans}
-use Rattle.std.proofs.lemmas.List.{take_more}
-use Rattle.std.proofs.lemmas.List.Folds.{list_any_more}
+use Rattle.std.proofs.Math.Bool.{or_assoc, or-false}
+use Rattle.std.proofs.lemmas.List.{take_more, drop_more, take_all}
 use Rattle.fs_io.specs.Faults.{Rose}
-use Rattle.fs_gluing.specs.Surface.{GluedPolygons}
+use Rattle.fs_gluing.specs.Surface.{GluedPolygons, IsSurface}
 use Rattle.fs_job.specs.declared.job.Command.{Command}
-use Rattle.fs_report.specs.Text.{command_text, is_partial}
+use Rattle.fs_report.specs.Text.{Answers}
+use Rattle.fs_report.proofs.OneAnswer.{one_text, some_text}
 use Rattle.fs_cli.specs.declared.outcome.Status.{Status}
 use Rattle.fs_cli.specs.declared.outcome.Status.TheVariants as status
-use Rattle.fs_cli.specs.Answer.{IsWhole, texts, status_of}
-use Rattle.fs_cli.specs.Writing.{Writes, command_status}
+use Rattle.fs_cli.specs.Answer.{IsWhole, IsBroken, AnswersAll, status_of}
+use Rattle.fs_cli.specs.Writing.{Writes, WithStatus, BeginsEach}
 
--- a status by whether something is partial
-abbrev by_partial : Bool → Status
-by_partial b = cond b status.Partial status.Done
+-- ---- the status of a text
 
-still_done : (b p : Bool) → by_partial p ≡ status.Done → by_partial (b || p) ≡ by_partial b
-still_done b true e = cc
+still_done : (p q : Bool) → status_of q ≡ status.Done → status_of (p || q) ≡ status_of p
+still_done p true e = cc
 still_done true false e = refl
 still_done false false e = refl
 
-now_partial : (b p : Bool) → by_partial p ≡ status.Partial → by_partial (b || p) ≡ status.Partial
-now_partial b false e = cc
+now_partial : (p q : Bool) → status_of q ≡ status.Partial → status_of (p || q) ≡ status.Partial
+now_partial p false e = cc
 now_partial true true e = refl
 now_partial false true e = refl
 
-neither : (p : Bool) (result : Status) → result ≡ by_partial p → result ≢ status.Done → result ≢ status.Partial → ⊥
+neither : (p : Bool) (result : Status) → result ≡ status_of p → result ≢ status.Done → result ≢ status.Partial → ⊥
 neither true result e done partial = partial e
 neither false result e done partial = done e
 
-module _ (s : GluedPolygons) where
-  texts-append : (xs ys : List Command) → texts s (xs ++ ys) ≡ texts s xs ++ texts s ys
-  texts-append [] ys = refl
-  texts-append (x ∷ xs) ys = ap (λ (text : List ℕ). command_text s x ++ text) (texts-append xs ys) ∙ sym (append_assoc (command_text s x) (texts s xs) (texts s ys))
+is_whole : (p : Bool) → IsWhole (status_of p)
+is_whole true = tt
+is_whole false = tt
 
-  module _ (commands : List Command) (i : ℕ) (d : Command) (h : i < length commands) where
-    abbrev this : Command
-    this = get_or commands i d
+not_broken : (p : Bool) → IsBroken (status_of p) → ⊥
+not_broken true b = b
+not_broken false b = b
 
-    texts_more : texts s (take (i + 1) commands) ≡ texts s (take i commands) ++ command_text s this
-    texts_more =
-        ap (texts s) (take_more commands i d h)
-        ∙ (texts-append (take i commands) (this ∷ [])
-        ∙ ap (λ (text : List ℕ). texts s (take i commands) ++ text) (append-nil (command_text s this)))
+not_write_fault : (p : Bool) → status_of p ≡ status.WriteFault → ⊥
+not_write_fault true e = cc
+not_write_fault false e = cc
 
-    texts_rest : (front rest : List ℕ) → command_text s this ≡ front ++ rest
-        → texts s commands ≡ (texts s (take i commands) ++ front) ++ (rest ++ texts s (drop (i + 1) commands))
-    texts_rest front rest e =
-        let done = texts s (take i commands) in
-        let later = texts s (drop (i + 1) commands) in
-        ap (texts s) (sym (take-append-drop (i + 1) commands))
-        ∙ (texts-append (take (i + 1) commands) (drop (i + 1) commands)
-        ∙ (ap (λ (text : List ℕ). text ++ later) (texts_more ∙ ap (λ (text : List ℕ). done ++ text) e)
-        ∙ simp append_assoc))
+module _ (s : GluedPolygons) (surface : IsSurface s) where
+  -- ---- commands have one text, and one way to be partial
 
-    status_more : status_of s (take (i + 1) commands) ≡ by_partial (list_any (is_partial s) (take i commands) || is_partial s this)
-    status_more = ap by_partial (list_any_more (is_partial s) commands i d h)
+  pub all_one : (commands : List Command) (m n : List ℕ) (p q : Bool) → AnswersAll s commands m p → AnswersAll s commands n q → (m ≡ n) × (p ≡ q)
+  all_one [] m n p q a b = (a.0 ∙ sym b.0, a.1 ∙ sym b.1)
+  all_one (command ∷ commands) m n p q a b =
+      let one = one_text s command a.front b.front a.front_partial b.front_partial surface a.one b.one in
+      let other = all_one commands a.back b.back a.back_partial b.back_partial a.other b.other in
+      (cc, cc)
 
-    module _ (result : Status) (before after : Option (List ℕ)) (faults' faults'' : ℕ) (w : Writes (command_text s this) (command_status s this) result before after faults' faults'') where
-      -- one command more was answered
-      pub written_more : (held : Option (List ℕ)) → Appends held before (texts s (take i commands)) → IsWhole result → Appends held after (texts s (take (i + 1) commands))
-      written_more held written whole = subst (Appends held after) (sym texts_more) (Appends-trans held before after _ _ written (w.whole whole).1)
+  pub some_all : (commands : List Command) → ((output : List ℕ) (partial : Bool) → ¬ AnswersAll s commands output partial) → ⊥
+  some_all [] none = none [] false (refl, refl)
+  some_all (command ∷ commands) none =
+      some_text s command surface (λ m p one. some_all commands (λ n q other. none (m ++ n) (p || q)
+      (record { front = m; back = n; front_partial = p; back_partial = q; one = one; other = other; whole = refl; kind = refl })))
 
-      pub done_more : (so_far next : Status) → so_far ≡ status_of s (take i commands) → result ≡ status.Done → next ≡ so_far → next ≡ status_of s (take (i + 1) commands)
-      done_more so_far next meant done same =
-          let this_done : by_partial (is_partial s this) ≡ status.Done = sym (w.whole (subst IsWhole (sym done) tt)).0 ∙ done in
-          same ∙ (meant ∙ (sym (still_done (list_any (is_partial s) (take i commands)) (is_partial s this) this_done) ∙ sym status_more))
+  -- one command more
+  one_more : (commands : List Command) (command : Command) (m n : List ℕ) (p q : Bool) → AnswersAll s commands m p → Answers s command n q
+      → AnswersAll s (commands ++ command ∷ []) (m ++ n) (p || q)
+  one_more [] command m n p q a b = record {
+    front = n;
+    back = [];
+    front_partial = q;
+    back_partial = false;
+    one = b;
+    other = (refl, refl);
+    whole = ap (λ (text : List ℕ). text ++ n) a.0 ∙ sym (append-nil n);
+    kind = ap (λ (partial : Bool). partial || q) a.1 ∙ sym (or-false q);
+  }
+  one_more (first ∷ commands) command m n p q a b = record {
+    front = a.front;
+    back = a.back ++ n;
+    front_partial = a.front_partial;
+    back_partial = a.back_partial || q;
+    one = a.one;
+    other = one_more commands command a.back n a.back_partial q a.other b;
+    whole = ap (λ (text : List ℕ). text ++ n) a.whole ∙ append_assoc a.front a.back n;
+    kind = ap (λ (partial : Bool). partial || q) a.kind ∙ or_assoc a.front_partial a.back_partial q;
+  }
 
-      pub partial_more : (next : Status) → result ≡ status.Partial → next ≡ status.Partial → next ≡ status_of s (take (i + 1) commands)
+  -- the texts of some commands, and what begins the text of the next one, begin the texts of all
+  module _ (command : Command) (later : List Command) (front : List ℕ) (begins : BeginsEach (WithStatus (Answers s command)) front) where
+    begin_all : (commands : List Command) (m output : List ℕ) (p q : Bool) → AnswersAll s commands m p → AnswersAll s (commands ++ command ∷ later) output q
+        → (rest : List ℕ) × (output ≡ (m ++ front) ++ rest)
+    begin_all [] m output p q a b =
+        let this = begins b.front (status_of b.front_partial) (b.front_partial, b.one, refl) in (
+          this.0 ++ b.back,
+          b.whole
+              ∙ (ap (λ (text : List ℕ). text ++ b.back) this.1
+              ∙ (append_assoc front this.0 b.back
+              ∙ ap (λ (text : List ℕ). (text ++ front) ++ (this.0 ++ b.back)) (sym a.0))),
+        )
+    begin_all (first ∷ commands) m output p q a b =
+        let same = one_text s first b.front a.front b.front_partial a.front_partial surface b.one a.one in
+        let more = begin_all commands a.back b.back a.back_partial b.back_partial a.other b.other in (
+          more.0,
+          b.whole
+              ∙ (ap (λ (text : List ℕ). text ++ b.back) same.0
+              ∙ (ap (λ (text : List ℕ). a.front ++ text) more.1
+              ∙ (simp append_assoc refl
+              ∙ ap (λ (text : List ℕ). (text ++ front) ++ more.0) (sym a.whole)))),
+        )
+
+  -- ---- a call for each command
+
+  module _ (commands : List Command) where
+    module _ (i : ℕ) (d : Command) (h : i < length commands) (held before after : Option (List ℕ)) (result so_far : Status) (faults' faults'' : ℕ)
+        (w : Writes (WithStatus (Answers s (get_or commands i d))) result before after faults' faults'')
+        (written : (text : List ℕ) × WithStatus (AnswersAll s (take i commands)) text so_far × Appends held before text) where
+      abbrev this : Command
+      this = get_or commands i d
+
+      all_more : (m n : List ℕ) (p q : Bool) → AnswersAll s (take i commands) m p → Answers s this n q → AnswersAll s (take (i + 1) commands) (m ++ n) (p || q)
+      all_more m n p q a b = subst (λ (front : List Command). AnswersAll s front (m ++ n) (p || q)) (sym (take_more commands i d h)) (one_more (take i commands) this m n p q a b)
+
+      -- its text was written whole
+      pub done_more : (next : Status) → result ≡ status.Done → next ≡ so_far
+          → (text : List ℕ) × WithStatus (AnswersAll s (take (i + 1) commands)) text next × Appends held after text
+      done_more next done same =
+          let wrote = w.whole (subst IsWhole (sym done) tt) in
+          let p = written.1.0 in
+          let q = wrote.1.0 in (
+            written.0 ++ wrote.0,
+            (p || q, all_more written.0 wrote.0 p q written.1.1 wrote.1.1, same ∙ (written.1.2 ∙ sym (still_done p q (sym wrote.1.2 ∙ done)))),
+            Appends-trans held before after written.0 wrote.0 written.2 wrote.2,
+          )
+
+      pub partial_more : (next : Status) → result ≡ status.Partial → next ≡ status.Partial
+          → (text : List ℕ) × WithStatus (AnswersAll s (take (i + 1) commands)) text next × Appends held after text
       partial_more next partial is =
-          let this_partial : by_partial (is_partial s this) ≡ status.Partial = sym (w.whole (subst IsWhole (sym partial) tt)).0 ∙ partial in
-          is ∙ (sym (now_partial (list_any (is_partial s) (take i commands)) (is_partial s this) this_partial) ∙ sym status_more)
+          let wrote = w.whole (subst IsWhole (sym partial) tt) in
+          let p = written.1.0 in
+          let q = wrote.1.0 in (
+            written.0 ++ wrote.0,
+            (p || q, all_more written.0 wrote.0 p q written.1.1 wrote.1.1, is ∙ sym (now_partial p q (sym wrote.1.2 ∙ partial))),
+            Appends-trans held before after written.0 wrote.0 written.2 wrote.2,
+          )
 
       -- it broke off at this command
-      pub broken_off : (held : Option (List ℕ)) (faults : ℕ) → Appends held before (texts s (take i commands)) → faults ≤ faults' → result ≢ status.Done → result ≢ status.Partial
-          → Writes (texts s commands) (status_of s commands) result held after faults faults''
-      broken_off held faults written falls not_done not_partial =
-          let not_whole : ¬ IsWhole result = λ whole. neither (is_partial s this) result (w.whole whole).0 not_done not_partial in
+      parts : commands ≡ take i commands ++ this ∷ drop (i + 1) commands
+      parts = sym (take-append-drop i commands) ∙ ap (λ (back : List Command). take i commands ++ back) (drop_more commands i d h)
+
+      begun : (front : List ℕ) → BeginsEach (WithStatus (Answers s this)) front → BeginsEach (WithStatus (AnswersAll s commands)) (written.0 ++ front)
+      begun front begins = λ output _ means.
+          begin_all this (drop (i + 1) commands) front begins (take i commands) written.0 output written.1.0 means.0 written.1.1
+          (subst (λ (all : List Command). AnswersAll s all output means.0) parts means.1)
+
+      rose : (faults : ℕ) → Rose faults' faults'' → faults ≤ faults' → Rose faults faults''
+      rose faults r f = elim r [ inl more ↦ inl (omega arith) | inr last ↦ inr last ]
+
+      pub broken_off : (faults : ℕ) → faults ≤ faults' → result ≢ status.Done → result ≢ status.Partial
+          → Writes (WithStatus (AnswersAll s commands)) result held after faults faults''
+      broken_off faults falls not_done not_partial =
+          let not_whole : ¬ IsWhole result = λ whole. let wrote = w.whole whole in neither wrote.1.0 result wrote.1.2 not_done not_partial in
           record {
             kinds = w.kinds;
             whole = λ whole. absurd (not_whole whole);
             broken = λ broken.
                 let front = w.broken broken in
-                (texts s (take i commands) ++ front.0, front.1 ++ texts s (drop (i + 1) commands), texts_rest front.0 front.1 front.2, Appends-trans held before after _ _ written front.3);
-            write_fault = λ e. rose (w.write_fault e) falls;
+                (written.0 ++ front.0, begun front.0 front.1, Appends-trans held before after written.0 front.0 written.2 front.2);
+            write_fault = λ e. rose faults (w.write_fault e) falls;
             never_falls = let later = w.never_falls in omega arith;
           }
-        where
-          rose : Rose faults' faults'' → faults ≤ faults' → Rose faults faults''
-          rose r f = elim r [ inl more ↦ inl (omega arith) | inr last ↦ inr last ]
+
+    -- the last one was answered
+    pub all_written : (i : ℕ) (held held' : Option (List ℕ)) (result : Status) (faults faults' : ℕ) → length commands ≤ i
+        → (text : List ℕ) × WithStatus (AnswersAll s (take i commands)) text result × Appends held held' text → faults ≤ faults'
+        → Writes (WithStatus (AnswersAll s commands)) result held held' faults faults'
+    all_written i held held' result faults faults' h written falls =
+        let p = written.1.0 in
+        let is = written.1.2 in
+        record {
+          kinds = inl (subst IsWhole (sym is) (is_whole p));
+          whole = λ _. (written.0, (p, subst (λ (all : List Command). AnswersAll s all written.0 p) (take_all i commands h) written.1.1, is), written.2);
+          broken = λ broken. absurd (not_broken p (subst IsBroken is broken));
+          write_fault = λ e. absurd (not_write_fault p (sym is ∙ e));
+          never_falls = falls;
+        }

@@ -1,70 +1,42 @@
 -- What a call wrote, from what the calls in it wrote.
-use Rattle.std.proofs.Common.{◌≡◌, ◌≢◌, ℕ, ◌≤◌, ◌⊎◌, List, [], ◌++◌, Option, None, Some, IfSome, Ok, Err, length, refl, sym, ap, ◌∙◌, subst, inl, inr, append-nil}
+use Rattle.std.proofs.Common.{◌≡◌, ◌≢◌, ℕ, ◌+◌, ◌<◌, ◌≤◌, ◌⊎◌, Bool, List, [], ◌++◌, Option, None, Some, IfSome, Err, length, refl, sym, ap, ◌∙◌, subst, inl, inr, arith, append-nil, length-append}
 use Rattle.std.specs.Io.KnownBytes.{Consumes, Appends, IsAtEnd}
+use Rattle.std.specs.List.{AllByRecursion}
 use Rattle.std.proofs.KnownBytes.{Appends-nil}
 use Rattle.fs_io.specs.Whole.{most_bytes}
 use Rattle.fs_gluing.specs.declared.faults.Fault.{Fault}
+use Rattle.fs_gluing.specs.declared.faults.Fault.TheVariants.{TooLong}
 use Rattle.fs_gluing.specs.declared.faults.BuildStop.{BuildStop}
 use Rattle.fs_gluing.specs.declared.faults.BuildStop.TheVariants as stops
-use Rattle.fs_gluing.specs.FirstFault.{Judges}
-use Rattle.fs_gluing.specs.Surface.{GluedPolygons}
+use Rattle.fs_gluing.specs.FirstFault.{Test, Judges, PassesOf, tests_of, IsFirstFailure, answer}
+use Rattle.fs_gluing.specs.Shape.{HasShape}
+use Rattle.fs_gluing.specs.Surface.{GluedPolygons, IsSurface}
 use Rattle.fs_job.specs.declared.job.Command.{Command}
 use Rattle.fs_job.specs.declared.job.JobStop.{JobStop}
 use Rattle.fs_job.specs.declared.job.JobStop.TheVariants as job_stops
 use Rattle.fs_job.specs.Grammar.{Draft, ReadsJob, IsFirstFault}
-use Rattle.fs_report.specs.Text.{fault_text}
+use Rattle.fs_report.specs.Text.{fault_text, Answers}
+use Rattle.fs_report.proofs.OneAnswer.{one_text}
 use Rattle.fs_cli.specs.declared.outcome.Status.{Status}
 use Rattle.fs_cli.specs.declared.outcome.Status.TheVariants as status
-use Rattle.fs_cli.specs.Answer.{IsAnswered, At_fault, Not_built, Answered, BeginsAnswer, shape_of, stop_text, stop_status, texts, status_of}
-use Rattle.fs_cli.specs.Writing.{Writes, WritesAnswer}
-use Rattle.fs_cli.proofs.Answered.{JobLaw, begins_each}
+use Rattle.fs_cli.specs.Answer.{IsAnswered, At_fault, Not_built, Answered, BeginsAnswer, shape_of, stop_text, stop_status, AnswersAll, status_of}
+use Rattle.fs_cli.specs.Writing.{Writes, IsJust, WithStatus, BeginsEach}
+use Rattle.fs_cli.proofs.Answered.{JobLaw, only_long, only_fault, only_stop, only_texts}
 
 -- nothing is the front of each answer
-nothing_begins : (bytes : List ℕ) → BeginsAnswer bytes []
-nothing_begins bytes = λ output result answered. (output, refl)
-
 pub begins_with_nothing : (old held : Option (List ℕ)) → IfSome old (λ bytes. (front : List ℕ) × BeginsAnswer bytes front × Appends held held front)
 begins_with_nothing None held = tt
-begins_with_nothing (Some bytes) held = ([], nothing_begins bytes, Appends-nil held)
+begins_with_nothing (Some bytes) held = ([], λ output result answered. (output, refl), Appends-nil held)
 
--- what was written of the answer to the bytes
-pub writes_answer : JobLaw → (bytes text : List ℕ) (meant result : Status) (held held' : Option (List ℕ)) (faults faults' : ℕ) → IsAnswered bytes text meant
-    → Writes text meant result held held' faults faults' → WritesAnswer bytes result held held' faults faults'
-writes_answer law bytes text meant result held held' faults faults' answered w = record {
-  kinds = w.kinds;
-  whole = λ whole. let wrote = w.whole whole in (text, subst (IsAnswered bytes text) (sym wrote.0) answered, wrote.1);
-  broken = λ broken. let front = w.broken broken in (front.0, begins_each law bytes front.0 front.1 text meant answered front.2, front.3);
-  write_fault = w.write_fault;
-  never_falls = w.never_falls;
-}
-
--- bytes that are no job
-pub at_fault : (bytes : List ℕ) (e : JobStop) (fault : Fault) → e ≡ job_stops.Fault fault → length bytes ≤ most_bytes
-    → (e ≡ job_stops.NoMemory) ⊎ ((f : Fault) × (e ≡ job_stops.Fault f) × IsFirstFault bytes f)
-    → IsAnswered bytes (fault_text fault) status.Refused
-at_fault bytes e fault is few told = elim told [
-  | inl none ↦ absurd (other_stops (sym is ∙ none))
-  | inr first ↦ At_fault fault few (subst (IsFirstFault bytes) (sym (same_fault (sym is ∙ first.1))) first.2) refl refl
-]
-  where
-    other_stops : job_stops.Fault fault ≡ job_stops.NoMemory → ⊥
-    other_stops f = cc
-
-    same_fault : {f : Fault} → job_stops.Fault fault ≡ job_stops.Fault f → fault ≡ f
-    same_fault g = cc
-
--- a job whose shape isn't built
-pub not_built : (bytes : List ℕ) (draft : Draft) (e stop : BuildStop) → e ≡ stop → length bytes ≤ most_bytes → ReadsJob bytes draft → Judges draft.d (shape_of draft) (Err e) → stop ≢ stops.NoMemory
-    → IsAnswered bytes (stop_text stop) (stop_status stop)
-not_built bytes draft e stop is few reads judged some = elim judged [
-  | inl none ↦ absurd (some (sym is ∙ none))
-  | inr failed ↦ Not_built draft failed.0 few reads failed.1 (ap stop_status (sym is ∙ failed.2)) (ap stop_text (sym is ∙ failed.2))
-]
-
--- a job whose surface is built
-pub built : (bytes : List ℕ) (draft : Draft) (s : GluedPolygons) → length bytes ≤ most_bytes → ReadsJob bytes draft → Judges draft.d (shape_of draft) (Ok s)
-    → IsAnswered bytes (texts s draft.commands) (status_of s draft.commands)
-built bytes draft s few reads judged = Answered draft s few reads judged.0 judged.1 judged.2 refl refl
+-- bytes that are too many
+pub begins_too_long : (old new : Option (List ℕ)) (taken : List ℕ) (held held' : Option (List ℕ)) → Consumes old new taken → length taken ≡ most_bytes + 1
+    → (front : List ℕ) × BeginsEach (IsJust (fault_text TooLong) status.Refused) front × Appends held held' front
+    → IfSome old (λ bytes. (front : List ℕ) × BeginsAnswer bytes front × Appends held held' front)
+begins_too_long None new taken held held' c many wrote = tt
+begins_too_long (Some bytes) None taken held held' c many wrote = absurd c
+begins_too_long (Some bytes) (Some rest) taken held held' c many wrote =
+    let long : most_bytes < length bytes = omega (arith, ap length c, length-append taken rest) in
+    (wrote.0, λ output r answered. wrote.1 output r (only_long bytes long output r answered), wrote.2)
 
 -- what was read to the end is all that was left
 pub read_whole : (old new : Option (List ℕ)) (items : List ℕ) → Consumes old new items → IsAtEnd new → (P : List ℕ → Type 0) → P items → IfSome old P
@@ -72,12 +44,81 @@ read_whole None new items c e P p = tt
 read_whole (Some bytes) None items c e P p = absurd c
 read_whole (Some bytes) (Some rest) items c e P p = subst P (sym (c ∙ (ap (λ (ys : List ℕ). items ++ ys) e ∙ append-nil items))) p
 
--- the same text
-pub writes_along : (text text' : List ℕ) (meant result : Status) (held held' : Option (List ℕ)) (faults faults' : ℕ) → text ≡ text'
-    → Writes text meant result held held' faults faults' → Writes text' meant result held held' faults faults'
-writes_along text text' meant result held held' faults faults' e = subst (λ (t : List ℕ). Writes t meant result held held' faults faults') e
+module _ (result : Status) (held held' : Option (List ℕ)) (faults faults' : ℕ) where
+  -- what is meant by the one is meant by the other
+  writes_meant : (M N : List ℕ → Status → Type 0) → ((output : List ℕ) (r : Status) → M output r → N output r) → ((output : List ℕ) (r : Status) → N output r → M output r)
+      → Writes M result held held' faults faults' → Writes N result held held' faults faults'
+  writes_meant M N there back w = record {
+    kinds = w.kinds;
+    whole = λ whole. let wrote = w.whole whole in (wrote.0, there wrote.0 result wrote.1, wrote.2);
+    broken = λ broken. let wrote = w.broken broken in (wrote.0, λ output r means. wrote.1 output r (back output r means), wrote.2);
+    write_fault = w.write_fault;
+    never_falls = w.never_falls;
+  }
 
--- the same commands
-pub writes_commands : (s : GluedPolygons) (commands commands' : List Command) (result : Status) (held held' : Option (List ℕ)) (faults faults' : ℕ) → commands ≡ commands'
-    → Writes (texts s commands) (status_of s commands) result held held' faults faults' → Writes (texts s commands') (status_of s commands') result held held' faults faults'
-writes_commands s commands commands' result held held' faults faults' e = subst (λ (cs : List Command). Writes (texts s cs) (status_of s cs) result held held' faults faults') e
+  -- this text with this status is all that is meant
+  writes_just : (N : List ℕ → Status → Type 0) (text : List ℕ) (meant : Status) → N text meant → ((output : List ℕ) (r : Status) → N output r → IsJust text meant output r)
+      → Writes (IsJust text meant) result held held' faults faults' → Writes N result held held' faults faults'
+  writes_just N text meant holds only =
+      writes_meant (IsJust text meant) N (λ output r just. subst (λ (t : List ℕ). N t r) (sym just.0) (subst (N text) (sym just.1) holds)) only
+
+  -- the same text
+  pub writes_along : (text text' : List ℕ) (meant : Status) → text ≡ text' → Writes (IsJust text meant) result held held' faults faults' → Writes (IsJust text' meant) result held held' faults faults'
+  writes_along text text' meant e = subst (λ (t : List ℕ). Writes (IsJust t meant) result held held' faults faults') e
+
+  -- the same commands
+  pub writes_commands : (s : GluedPolygons) (commands commands' : List Command) → commands ≡ commands'
+      → Writes (WithStatus (AnswersAll s commands)) result held held' faults faults' → Writes (WithStatus (AnswersAll s commands')) result held held' faults faults'
+  writes_commands s commands commands' e = subst (λ (cs : List Command). Writes (WithStatus (AnswersAll s cs)) result held held' faults faults') e
+
+  -- the text of a command
+  pub writes_command : (s : GluedPolygons) (command : Command) (text : List ℕ) (partial : Bool) (meant : Status) → IsSurface s → Answers s command text partial → meant ≡ status_of partial
+      → Writes (IsJust text meant) result held held' faults faults' → Writes (WithStatus (Answers s command)) result held held' faults faults'
+  writes_command s command text partial meant surface answers is =
+      writes_just (WithStatus (Answers s command)) text meant (partial, answers, is)
+      (λ output r means.
+      let one = one_text s command output text means.0 partial surface means.1 answers in
+      (one.0, means.2 ∙ (ap status_of one.1 ∙ sym is)))
+
+  module _ (law : JobLaw) (bytes : List ℕ) (few : length bytes ≤ most_bytes) where
+    -- bytes that are no job
+    pub writes_fault : (e : JobStop) (fault : Fault) → e ≡ job_stops.Fault fault → (e ≡ job_stops.NoMemory) ⊎ ((f : Fault) × (e ≡ job_stops.Fault f) × IsFirstFault bytes f)
+        → Writes (IsJust (fault_text fault) status.Refused) result held held' faults faults' → Writes (IsAnswered bytes) result held held' faults faults'
+    writes_fault e fault is told =
+        writes_just (IsAnswered bytes) (fault_text fault) status.Refused (At_fault fault few first refl refl) (only_fault law bytes fault few first)
+      where
+        other_stops : job_stops.Fault fault ≡ job_stops.NoMemory → ⊥
+        other_stops f = cc
+
+        same_fault : {f : Fault} → job_stops.Fault fault ≡ job_stops.Fault f → fault ≡ f
+        same_fault g = cc
+
+        first : IsFirstFault bytes fault
+        first = elim told [
+          | inl none ↦ absurd (other_stops (sym is ∙ none))
+          | inr found ↦ subst (IsFirstFault bytes) (sym (same_fault (sym is ∙ found.1))) found.2
+        ]
+
+    -- a job whose shape isn't built
+    pub writes_stop : (draft : Draft) (e stop : BuildStop) → e ≡ stop → ReadsJob bytes draft → Judges draft.d (shape_of draft) (Err e) → stop ≢ stops.NoMemory
+        → Writes (IsJust (stop_text stop) (stop_status stop)) result held held' faults faults' → Writes (IsAnswered bytes) result held held' faults faults'
+    writes_stop draft e stop is reads judged some w = elim judged [
+      | inl none ↦ absurd (some (sym is ∙ none))
+      | inr failed ↦ stopped failed.0 failed.1 (sym is ∙ failed.2)
+    ]
+      where
+        stopped : (test : Test) → IsFirstFailure draft.d (shape_of draft) test → stop ≡ answer test → Writes (IsAnswered bytes) result held held' faults faults'
+        stopped test first same =
+            writes_just (IsAnswered bytes) (stop_text stop) (stop_status stop) (Not_built draft test few reads first (ap stop_status same) (ap stop_text same))
+            (λ output r means.
+            let just = only_stop law bytes draft test few reads first output r means in
+            (just.0 ∙ sym (ap stop_text same), just.1 ∙ sym (ap stop_status same))) w
+
+    -- a job whose surface is built
+    pub writes_texts : (draft : Draft) (s : GluedPolygons) → ReadsJob bytes draft → IsSurface s → HasShape draft.d (shape_of draft) s
+        → AllByRecursion (PassesOf draft.d (shape_of draft)) (tests_of (shape_of draft))
+        → Writes (WithStatus (AnswersAll s draft.commands)) result held held' faults faults' → Writes (IsAnswered bytes) result held held' faults faults'
+    writes_texts draft s reads surface shape all =
+        writes_meant (WithStatus (AnswersAll s draft.commands)) (IsAnswered bytes)
+        (λ output r means. Answered draft s means.0 few reads surface shape all means.1 means.2)
+        (only_texts law bytes draft s few reads shape all)

@@ -1,6 +1,6 @@
 -- The whole answer to the bytes of a job: what is written, and the status.
-use Rattle.std.specs.Prelude.{◌≡◌, ℕ, ◌<◌, ◌≤◌, if◌then◌else◌, List, [], ◌∷◌, ◌++◌, length}
-use Rattle.std.specs.List.{AllByRecursion, list_any}
+use Rattle.std.specs.Prelude.{◌≡◌, ℕ, ◌<◌, ◌≤◌, Bool, false, ◌||◌, if◌then◌else◌, List, [], ◌∷◌, ◌++◌, length}
+use Rattle.std.specs.List.{AllByRecursion}
 use Rattle.fs_io.specs.Whole.{most_bytes}
 use Rattle.fs_gluing.specs.declared.faults.Fault.{Fault}
 use Rattle.fs_gluing.specs.declared.faults.Fault.TheVariants.{TooLong}
@@ -12,7 +12,7 @@ use Rattle.fs_gluing.specs.Surface.{GluedPolygons, IsSurface}
 use Rattle.fs_gluing.specs.FirstFault.{Test, PassesOf, tests_of, IsFirstFailure, answer}
 use Rattle.fs_job.specs.declared.job.Command.{Command}
 use Rattle.fs_job.specs.Grammar.{Draft, ReadsJob, IsFirstFault}
-use Rattle.fs_report.specs.Text.{fault_text, build_text, command_text, is_partial}
+use Rattle.fs_report.specs.Text.{fault_text, build_text, Answers}
 use Rattle.fs_cli.specs.declared.outcome.Status.{Status}
 use Rattle.fs_cli.specs.declared.outcome.Status.TheVariants as status
 
@@ -31,14 +31,25 @@ stop_status stops.NoMemory = status.NoMemory
 abbrev pub shape_of : Draft → Shape
 shape_of draft = record { polygons = draft.polygons; glues = draft.glues }
 
--- the answers of commands, one behind the other
-abbrev pub texts : GluedPolygons → List Command → List ℕ
-texts s [] = []
-texts s (command ∷ commands) = command_text s command ++ texts s commands
+-- the status of a text, by whether it stands in the place of a whole answer
+abbrev pub status_of : Bool → Status
+status_of partial = if partial then status.Partial else status.Done
 
--- the status of commands: one without a whole answer makes it partial
-abbrev pub status_of : GluedPolygons → List Command → Status
-status_of s commands = if list_any (is_partial s) commands then status.Partial else status.Done
+-- the one answer and the other behind it, partial where one of them is
+pub record AreJoined (One Other : List ℕ → Bool → Type 0) (output : List ℕ) (partial : Bool) : Type 0 where
+  pub front : List ℕ
+  pub back : List ℕ
+  pub front_partial : Bool
+  pub back_partial : Bool
+  pub one : One front front_partial
+  pub other : Other back back_partial
+  pub whole : output ≡ front ++ back
+  pub kind : partial ≡ front_partial || back_partial
+
+-- the answers of commands in order, one behind the other
+abbrev pub AnswersAll : GluedPolygons → List Command → List ℕ → Bool → Type 0
+AnswersAll s [] output partial = (output ≡ []) × (partial ≡ false)
+AnswersAll s (command ∷ commands) output partial = AreJoined (Answers s command) (AnswersAll s commands) output partial
 
 -- the bytes are answered with this output and this status, for one of four reasons
 pub data IsAnswered (bytes output : List ℕ) (result : Status) : Type 0 where
@@ -50,9 +61,9 @@ pub data IsAnswered (bytes output : List ℕ) (result : Status) : Type 0 where
   Not_built : (draft : Draft) → (test : Test) → length bytes ≤ most_bytes → ReadsJob bytes draft → IsFirstFailure draft.d (shape_of draft) test
       → result ≡ stop_status (answer test) → output ≡ stop_text (answer test) → IsAnswered bytes output result
   -- the surface of the shape is built, and the commands are answered in order
-  Answered : (draft : Draft) → (s : GluedPolygons) → length bytes ≤ most_bytes → ReadsJob bytes draft
+  Answered : (draft : Draft) → (s : GluedPolygons) → (partial : Bool) → length bytes ≤ most_bytes → ReadsJob bytes draft
       → IsSurface s → HasShape draft.d (shape_of draft) s → AllByRecursion (PassesOf draft.d (shape_of draft)) (tests_of (shape_of draft))
-      → result ≡ status_of s draft.commands → output ≡ texts s draft.commands → IsAnswered bytes output result
+      → AnswersAll s draft.commands output partial → result ≡ status_of partial → IsAnswered bytes output result
 
 -- the number of a status
 abbrev pub exit_code : Status → ℕ

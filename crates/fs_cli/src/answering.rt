@@ -1,7 +1,8 @@
 ghost use Rattle.std.specs.Prelude.{◌∷◌, []};
-ghost use Rattle.fs_report.specs.Text.{fault_text, build_text, command_text};
-ghost use Rattle.fs_cli.specs.Answer.{IsWhole, texts, status_of};
-ghost use Rattle.fs_cli.specs.Writing.{Writes, command_status};
+ghost use Rattle.fs_gluing.specs.Surface.{IsSurface};
+ghost use Rattle.fs_report.specs.Text.{fault_text, build_text, Answers};
+ghost use Rattle.fs_cli.specs.Answer.{IsWhole, AnswersAll};
+ghost use Rattle.fs_cli.specs.Writing.{Writes, IsJust, WithStatus};
 
 use crate::outcome::Status;
 use fs_gluing::{Fault, Surface};
@@ -17,7 +18,7 @@ const BUDGET: u32 = 100_000;
 // Writes a text, whose status this is.
 fn write_text<O: Sink>(text: &str, status: Status, out: &mut O) -> Status
     requires { IsWhole status }
-    ensures { Writes text.now status result (O.held out.old) (O.held out.new) (O.faults out.old) (O.faults out.new) }
+    ensures { Writes (IsJust text.now status) result (O.held out.old) (O.held out.new) (O.faults out.old) (O.faults out.new) }
 {
     match write_all(out, text.as_bytes()) {
         Ok(()) => status,
@@ -27,7 +28,7 @@ fn write_text<O: Sink>(text: &str, status: Status, out: &mut O) -> Status
 
 // Writes the line of a fault.
 pub(crate) fn refuse<O: Sink>(alloc: Global, fault: &Fault, out: &mut O) -> Status
-    ensures { Writes (fault_text fault.now) Status.Refused result (O.held out.old) (O.held out.new) (O.faults out.old) (O.faults out.new) }
+    ensures { Writes (IsJust (fault_text fault.now) Status.Refused) result (O.held out.old) (O.held out.new) (O.faults out.old) (O.faults out.new) }
 {
     let Ok(line) = fault_line(alloc, fault) else {
         return Status::NoMemory;
@@ -37,7 +38,7 @@ pub(crate) fn refuse<O: Sink>(alloc: Global, fault: &Fault, out: &mut O) -> Stat
 
 // Writes the line of the site where building left the width.
 pub(crate) fn stop_at<O: Sink>(alloc: Global, site: &Site, out: &mut O) -> Status
-    ensures { Writes (build_text site.now) Status.Partial result (O.held out.old) (O.held out.new) (O.faults out.old) (O.faults out.new) }
+    ensures { Writes (IsJust (build_text site.now) Status.Partial) result (O.held out.old) (O.held out.new) (O.faults out.old) (O.faults out.new) }
 {
     let Ok(line) = build_line(alloc, site) else {
         return Status::NoMemory;
@@ -47,7 +48,8 @@ pub(crate) fn stop_at<O: Sink>(alloc: Global, site: &Site, out: &mut O) -> Statu
 
 // Writes the answer of one command.
 fn answer_one<O: Sink>(alloc: Global, surface: &Surface, command: &Command, out: &mut O) -> Status
-    ensures { Writes (command_text surface.now command.now) (command_status surface.now command.now) result
+    requires { IsSurface surface.now }
+    ensures { Writes (WithStatus (Answers surface.now command.now)) result
         (O.held out.old) (O.held out.new) (O.faults out.old) (O.faults out.new) }
 {
     let Ok(answer) = find_answer(alloc, surface, command, BUDGET) else {
@@ -68,7 +70,8 @@ pub(crate) fn answer_all<O: Sink>(
     commands: &[Command],
     out: &mut O,
 ) -> Status
-    ensures { Writes (texts surface.now commands.now) (status_of surface.now commands.now) result
+    requires { IsSurface surface.now }
+    ensures { Writes (WithStatus (AnswersAll surface.now commands.now)) result
         (O.held out.old) (O.held out.new) (O.faults out.old) (O.faults out.new) }
 {
     let mut status = Status::Done;

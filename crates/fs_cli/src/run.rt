@@ -4,7 +4,7 @@ ghost use Rattle.fs_io.specs.Faults.{Rose};
 ghost use Rattle.fs_io.specs.Whole.{most_bytes, TakesPrefix};
 ghost use Rattle.fs_job.specs.Reading as reading;
 ghost use Rattle.fs_cli.specs.Answer.{IsAnswered, IsWhole, IsBroken, BeginsAnswer};
-ghost use Rattle.fs_cli.specs.Writing.{WritesAnswer};
+ghost use Rattle.fs_cli.specs.Writing.{Writes};
 
 use crate::answering::{answer_all, refuse, stop_at};
 use crate::outcome::Status;
@@ -25,7 +25,7 @@ fn shape_of(form: &Form) -> &Shape
 // Writes the answer to these bytes.
 fn answer<O: Sink>(alloc: Global, bytes: &[u8], out: &mut O) -> Status
     requires { length bytes.now ≤ most_bytes }
-    ensures { WritesAnswer bytes.now result (O.held out.old) (O.held out.new) (O.faults out.old) (O.faults out.new) }
+    ensures { Writes (IsAnswered bytes.now) result (O.held out.old) (O.held out.new) (O.faults out.old) (O.faults out.new) }
 {
     // Each text is one job or has one first fault, so a front of its answer is a front of each.
     job_or_fault();

@@ -1,14 +1,22 @@
-use Rattle.std.proofs.Common.{sym, subst, arith}
+use Rattle.std.proofs.Common.{[], false, refl, arith}
+use Rattle.std.proofs.KnownBytes.{Appends-nil}
 use Rattle.fs_job.specs.declared.job.Command.TheVariants.{Check}
-use Rattle.fs_cli.specs.Answer.{IsWhole}
-use Rattle.fs_cli.proofs.Texts.{written_more, done_more, partial_more, broken_off}
+use Rattle.fs_cli.proofs.Texts.{done_more, partial_more, broken_off, all_written}
 use Rattle.fs_cli.proofs.answering.answer_all.Goals as goal
 use Rattle.fs_cli.proofs.answering.answer_all.Goals.{in-Done, in-Partial}
 
+pub loop-command-init : goal.loop-command-init
+loop-command-init g c = record { written = ([], (false, (refl, refl), refl), Appends-nil _); never_falls = omega arith }
+
 pub returns-in_default : goal.returns-in_default
 returns-in_default g c =
-    broken_off c.args.surface.now c.args.commands.now c.loop-command.command-index Check c.loop-command-test.true c.answer_one.result _ _ _ _ c.answer_one.ensures
-    _ _ c.loop-command.invariant.written c.loop-command.invariant.never_falls c.in_default.not-Done c.in_default.not-Partial
+    broken_off c.args.surface.now c.requires c.args.commands.now c.loop-command.command-index Check c.loop-command-test.true _ _ _ c.answer_one.result _ _ _
+    c.answer_one.ensures c.loop-command.invariant.written _ c.loop-command.invariant.never_falls c.in_default.not-Done c.in_default.not-Partial
+
+pub returns : goal.returns
+returns g c =
+    all_written c.args.surface.now c.requires c.args.commands.now c.loop-command.command-index _ _ c.loop-command.status _ _ c.loop-command-test.false
+    c.loop-command.invariant.written c.loop-command.invariant.never_falls
 
 pub loop-command-preserved : goal.loop-command-preserved
 loop-command-preserved g c =
@@ -20,13 +28,11 @@ loop-command-preserved g c =
     let falls' = c.answer_one.ensures.never_falls in
     elim c.match-answer_one.branch [
       | in-Done w ↦ record {
-        written = written_more s commands i Check c.loop-command-test.true result _ _ _ _ c.answer_one.ensures _ c.loop-command.invariant.written (subst IsWhole (sym w.in-Done.is) tt);
-        meant = done_more s commands i Check c.loop-command-test.true result _ _ _ _ c.answer_one.ensures _ _ c.loop-command.invariant.meant w.in-Done.is w.status-is;
+        written = done_more s c.requires commands i Check c.loop-command-test.true _ _ _ result _ _ _ c.answer_one.ensures c.loop-command.invariant.written _ w.in-Done.is w.status-is;
         never_falls = omega arith;
       }
       | in-Partial w ↦ record {
-        written = written_more s commands i Check c.loop-command-test.true result _ _ _ _ c.answer_one.ensures _ c.loop-command.invariant.written (subst IsWhole (sym w.in-Partial.is) tt);
-        meant = partial_more s commands i Check c.loop-command-test.true result _ _ _ _ c.answer_one.ensures _ w.in-Partial.is w.status-is;
+        written = partial_more s c.requires commands i Check c.loop-command-test.true _ _ _ result _ _ _ c.answer_one.ensures c.loop-command.invariant.written _ w.in-Partial.is w.status-is;
         never_falls = omega arith;
       }
     ]
