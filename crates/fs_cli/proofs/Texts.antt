@@ -42,6 +42,10 @@ not_write_fault : (p : Bool) → status_of p ≡ status.WriteFault → ⊥
 not_write_fault true e = cc
 not_write_fault false e = cc
 
+-- the first i commands were answered, with this status so far
+abbrev pub AreAnswered : GluedPolygons → List Command → ℕ → Status → Option (List ℕ) → Option (List ℕ) → Type 0
+AreAnswered s commands i so_far held held' = (text : List ℕ) × WithStatus (AnswersAll s (take i commands)) text so_far × Appends held held' text
+
 module _ (s : GluedPolygons) (surface : IsSurface s) where
   -- ---- commands have one text, and one way to be partial
 
@@ -110,7 +114,7 @@ module _ (s : GluedPolygons) (surface : IsSurface s) where
   module _ (commands : List Command) where
     module _ (i : ℕ) (d : Command) (h : i < length commands) (held before after : Option (List ℕ)) (result so_far : Status) (faults' faults'' : ℕ)
         (w : Writes (WithStatus (Answers s (get_or commands i d))) result before after faults' faults'')
-        (written : (text : List ℕ) × WithStatus (AnswersAll s (take i commands)) text so_far × Appends held before text) where
+        (written : AreAnswered s commands i so_far held before) where
       abbrev this : Command
       this = get_or commands i d
 
@@ -118,27 +122,21 @@ module _ (s : GluedPolygons) (surface : IsSurface s) where
       all_more m n p q a b = subst (λ (front : List Command). AnswersAll s front (m ++ n) (p || q)) (sym (take_more commands i d h)) (one_more (take i commands) this m n p q a b)
 
       -- its text was written whole
-      pub done_more : (next : Status) → result ≡ status.Done → next ≡ so_far
-          → (text : List ℕ) × WithStatus (AnswersAll s (take (i + 1) commands)) text next × Appends held after text
-      done_more next done same =
-          let wrote = w.whole (subst IsWhole (sym done) tt) in
+      more_written : (next : Status) → IsWhole result → ((p q : Bool) → so_far ≡ status_of p → result ≡ status_of q → next ≡ status_of (p || q)) → AreAnswered s commands (i + 1) next held after
+      more_written next whole joined =
+          let wrote = w.whole whole in
           let p = written.1.0 in
           let q = wrote.1.0 in (
             written.0 ++ wrote.0,
-            (p || q, all_more written.0 wrote.0 p q written.1.1 wrote.1.1, same ∙ (written.1.2 ∙ sym (still_done p q (sym wrote.1.2 ∙ done)))),
+            (p || q, all_more written.0 wrote.0 p q written.1.1 wrote.1.1, joined p q written.1.2 wrote.1.2),
             Appends-trans held before after written.0 wrote.0 written.2 wrote.2,
           )
 
-      pub partial_more : (next : Status) → result ≡ status.Partial → next ≡ status.Partial
-          → (text : List ℕ) × WithStatus (AnswersAll s (take (i + 1) commands)) text next × Appends held after text
-      partial_more next partial is =
-          let wrote = w.whole (subst IsWhole (sym partial) tt) in
-          let p = written.1.0 in
-          let q = wrote.1.0 in (
-            written.0 ++ wrote.0,
-            (p || q, all_more written.0 wrote.0 p q written.1.1 wrote.1.1, is ∙ sym (now_partial p q (sym wrote.1.2 ∙ partial))),
-            Appends-trans held before after written.0 wrote.0 written.2 wrote.2,
-          )
+      pub done_more : (next : Status) → result ≡ status.Done → next ≡ so_far → AreAnswered s commands (i + 1) next held after
+      done_more next done same = more_written next (subst IsWhole (sym done) tt) (λ p q before this. same ∙ (before ∙ sym (still_done p q (sym this ∙ done))))
+
+      pub partial_more : (next : Status) → result ≡ status.Partial → next ≡ status.Partial → AreAnswered s commands (i + 1) next held after
+      partial_more next partial is = more_written next (subst IsWhole (sym partial) tt) (λ p q before this. is ∙ sym (now_partial p q (sym this ∙ partial)))
 
       -- it broke off at this command
       parts : commands ≡ take i commands ++ this ∷ drop (i + 1) commands
@@ -167,8 +165,7 @@ module _ (s : GluedPolygons) (surface : IsSurface s) where
           }
 
     -- the last one was answered
-    pub all_written : (i : ℕ) (held held' : Option (List ℕ)) (result : Status) (faults faults' : ℕ) → length commands ≤ i
-        → (text : List ℕ) × WithStatus (AnswersAll s (take i commands)) text result × Appends held held' text → faults ≤ faults'
+    pub all_written : (i : ℕ) (held held' : Option (List ℕ)) (result : Status) (faults faults' : ℕ) → length commands ≤ i → AreAnswered s commands i result held held' → faults ≤ faults'
         → Writes (WithStatus (AnswersAll s commands)) result held held' faults faults'
     all_written i held held' result faults faults' h written falls =
         let p = written.1.0 in
