@@ -13,3 +13,4 @@ pub mod Sums
 pub mod Halves
 pub mod EulerSum
 pub mod Parity
+pub mod OneList

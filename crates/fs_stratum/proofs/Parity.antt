@@ -48,20 +48,20 @@ iterate-ahead polygons (suc n) c = iterate-ahead polygons n (next polygons c)
 
 -- ---- least corners
 
-less_trans : (a b c : Corner) → corner_cmp a b ≡ Less → corner_cmp b c ≡ Less → corner_cmp a c ≡ Less
+pub less_trans : (a b c : Corner) → corner_cmp a b ≡ Less → corner_cmp b c ≡ Less → corner_cmp a c ≡ Less
 less_trans a b c h k = less_of a c (elim (of_less a b h) [
   | inl l ↦ elim (of_less b c k) [ inl m ↦ inl (omega arith) | inr m ↦ inl (let e = m.0 in omega arith) ]
   | inr l ↦ elim (of_less b c k) [ inl m ↦ inl (let e = l.0 in omega arith) | inr m ↦ inr (l.0 ∙ m.0, let f = l.1 in let g = m.1 in omega arith) ]
 ])
 
-abbrev firsts : List Cone → List Corner
+abbrev pub firsts : List Cone → List Corner
 firsts cones = map (λ (cone : Cone). cone.first) cones
 
-ascending_tail : (x : Cone) (rest : List Cone) → AreAscending (firsts (x ∷ rest)) → AreAscending (firsts rest)
+pub ascending_tail : (x : Cone) (rest : List Cone) → AreAscending (firsts (x ∷ rest)) → AreAscending (firsts rest)
 ascending_tail x [] a = tt
 ascending_tail x (y ∷ rest) a = a.1
 
-ascending_less : (x : Cone) (rest : List Cone) → AreAscending (firsts (x ∷ rest)) → (e : Corner) → cycles.IsIn e (firsts rest) → corner_cmp x.first e ≡ Less
+pub ascending_less : (x : Cone) (rest : List Cone) → AreAscending (firsts (x ∷ rest)) → (e : Corner) → cycles.IsIn e (firsts rest) → corner_cmp x.first e ≡ Less
 ascending_less x [] a e h = absurd h
 ascending_less x (y ∷ rest) a e h = elim h [
   | inl same ↦ subst (λ c. corner_cmp x.first c ≡ Less) (sym same) a.0

@@ -1,0 +1,114 @@
+-- A surface has one list of vertices, and one genus for their number.
+use Rattle.std.proofs.Common.{◌≡◌, ◌⊎◌, inl, inr, ℕ, suc, List, [], ◌∷◌, sym, ap, ◌∙◌, refl, subst, arith}
+use Rattle.std.proofs.lemmas.Bool.{cases_order}
+use Rattle.std.specs.List.{AllByRecursion}
+use Rattle.std.specs.declared.cmp.Ordering.TheVariants.{Less}
+use Rattle.fs_cycles.specs.Cycles.{IsIn}
+use Rattle.fs_cycles.proofs.Lists.{in_of_contains, in_map}
+use Rattle.fs_plane.specs.declared.corners.Corner.{Corner}
+use Rattle.fs_gluing.specs.Gluing.{corner_cmp}
+use Rattle.fs_gluing.specs.Surface.{GluedPolygons, IsSurface}
+use Rattle.fs_gluing.specs.Vertices.{AreOneVertex, IsCount, IsConeNumber}
+use Rattle.fs_stratum.specs.declared.cones.Cone.{Cone}
+use Rattle.fs_stratum.specs.Cones.{IsCone, AreCones, AreAscending, IsGenus}
+use Rattle.fs_stratum.proofs.Sides.{corner_eq}
+use Rattle.fs_stratum.proofs.Orbits.{one_vertex_comm}
+use Rattle.fs_stratum.proofs.Found.{less_of, of_less}
+use Rattle.fs_stratum.proofs.Parity.{less_trans, firsts, ascending_tail, ascending_less}
+
+-- ---- the order of corners is total
+
+pub not_less_itself : (a : Corner) → corner_cmp a a ≡ Less → ⊥
+not_less_itself a h = elim (of_less a a h) [ inl l ↦ omega arith | inr k ↦ let l = k.1 in omega arith ]
+
+pub not_less_both_ways : (a b : Corner) → corner_cmp a b ≡ Less → corner_cmp b a ≡ Less → ⊥
+not_less_both_ways a b h k = not_less_itself a (less_trans a b a h k)
+
+corner_cases : (a b : Corner) → (a ≡ b) ⊎ ((corner_cmp a b ≡ Less) ⊎ (corner_cmp b a ≡ Less))
+corner_cases a b = elim (cases_order a.polygon b.polygon) [
+  | inl e ↦ elim (cases_order a.side b.side) [
+    | inl f ↦ inl (corner_eq e f)
+    | inr s ↦ elim s [ inl l ↦ inr (inl (less_of a b (inr (e, l)))) | inr l ↦ inr (inr (less_of b a (inr (sym e, l)))) ]
+  ]
+  | inr s ↦ elim s [ inl l ↦ inr (inl (less_of a b (inl l))) | inr l ↦ inr (inr (less_of b a (inl l))) ]
+]
+
+-- ---- a count is one number
+
+count_one : (P : Corner → Type 0) (xs : List Corner) (m n : ℕ) → IsCount P xs m → IsCount P xs n → m ≡ n
+count_one P [] m n h k = h ∙ sym k
+count_one P (x ∷ xs) m n h k = elim h [
+  | inl a ↦ elim k [
+    | inl b ↦ a.1.1 ∙ ap (λ n. suc n) (count_one P xs a.1.0 b.1.0 a.1.2 b.1.2) ∙ sym b.1.1
+    | inr b ↦ absurd (b.0 a.0)
+  ]
+  | inr a ↦ elim k [
+    | inl b ↦ absurd (a.0 b.0)
+    | inr b ↦ count_one P xs m n a.1 b.1
+  ]
+]
+
+-- ---- ascending lists with the same cones
+
+one_head : (x y : Cone) (xs ys : List Cone) → AreAscending (firsts (x ∷ xs)) → AreAscending (firsts (y ∷ ys)) → IsIn x (y ∷ ys) → IsIn y (x ∷ xs) → x ≡ y
+one_head x y xs ys a b h k = elim h [
+  | inl e ↦ e
+  | inr i ↦ elim k [
+    | inl e ↦ sym e
+    | inr j ↦ absurd (not_less_both_ways x.first y.first
+        (ascending_less x xs a y.first (in_map (λ (cone : Cone). cone.first) y xs j))
+        (ascending_less y ys b x.first (in_map (λ (cone : Cone). cone.first) x ys i)))
+  ]
+]
+
+-- what stands in the one list is later in the other too, where it is later in the one
+later_in : (x y c : Cone) (xs ys : List Cone) → AreAscending (firsts (x ∷ xs)) → x ≡ y → IsIn c xs → IsIn c (y ∷ ys) → IsIn c ys
+later_in x y c xs ys a e i h = elim h [
+  | inl f ↦ absurd (not_less_itself x.first (subst (λ (z : Cone). corner_cmp x.first z.first ≡ Less) (f ∙ sym e) (ascending_less x xs a c.first (in_map (λ (cone : Cone). cone.first) c xs i))))
+  | inr j ↦ j
+]
+
+one_ascending : (xs ys : List Cone) → AreAscending (firsts xs) → AreAscending (firsts ys) → ((c : Cone) → IsIn c xs → IsIn c ys) → ((c : Cone) → IsIn c ys → IsIn c xs) → xs ≡ ys
+one_ascending [] [] a b f g = refl
+one_ascending [] (y ∷ ys) a b f g = absurd (g y (inl refl))
+one_ascending (x ∷ xs) [] a b f g = absurd (f x (inl refl))
+one_ascending (x ∷ xs) (y ∷ ys) a b f g =
+    let e = one_head x y xs ys a b (f x (inl refl)) (g y (inl refl)) in
+    let rest = one_ascending xs ys (ascending_tail x xs a) (ascending_tail y ys b)
+    (λ c i. later_in x y c xs ys a e i (f c (inr i)))
+    (λ c i. later_in y x c ys xs b (sym e) i (g c (inr i))) in
+    λ i. e i ∷ rest i
+
+-- ---- the vertices of a surface
+
+module _ (s : GluedPolygons) (surface : IsSurface s) where
+  -- the least corner of a vertex is one, and so is its cone number
+  one_cone : (x y : Cone) → IsCone s x → IsCone s y → AreOneVertex s.polygons x.first y.first → x ≡ y
+  one_cone x y p q o =
+      let there = p.there in
+      let first : x.first ≡ y.first = elim (corner_cases x.first y.first) [
+        | inl e ↦ e
+        | inr c ↦ elim c [
+          | inl l ↦ absurd (q.least x.first (one_vertex_comm s.polygons surface.glued x.first y.first there o) l)
+          | inr l ↦ absurd (p.least y.first o l)
+        ]
+      ] in
+      let number : x.k ≡ y.k = count_one _ _ x.k y.k p.number (subst (λ c. IsConeNumber s c y.k) (sym first) q.number) in
+      λ i. record { first = first i; k = number i }
+
+  cone_at : (cones : List Cone) (c : Cone) → AllByRecursion (IsCone s) cones → IsIn c cones → IsCone s c
+  cone_at [] c all i = absurd i
+  cone_at (x ∷ cones) c all i = elim i [ inl e ↦ subst (IsCone s) (sym e) all.0 | inr j ↦ cone_at cones c all.1 j ]
+
+  listed_too : (xs ys : List Cone) → AreCones s xs → AreCones s ys → (c : Cone) → IsIn c xs → IsIn c ys
+  listed_too xs ys a b c i =
+      let p = cone_at xs c a.each i in
+      let found = b.all c.first p.there in
+      let j = in_of_contains found.0 ys found.1 in
+      subst (λ (x : Cone). IsIn x ys) (one_cone found.0 c (cone_at ys found.0 b.each j) p found.2) j
+
+pub one_list : (s : GluedPolygons) → IsSurface s → (xs ys : List Cone) → AreCones s xs → AreCones s ys → xs ≡ ys
+one_list s surface xs ys a b = one_ascending xs ys a.ascending b.ascending (listed_too s surface xs ys a b) (listed_too s surface ys xs b a)
+
+pub one_genus : (s : GluedPolygons) (vertices g h : ℕ) → IsGenus s vertices g → IsGenus s vertices h → g ≡ h
+one_genus s vertices g h a b = omega arith
