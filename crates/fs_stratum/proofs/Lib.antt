@@ -14,3 +14,4 @@ pub mod Halves
 pub mod EulerSum
 pub mod Parity
 pub mod OneList
+pub mod SomeList

@@ -73,7 +73,7 @@ pub record StandsFrom {X : Type 0} (i : ℕ) (polygons : List (List X)) (c : Cor
   pub is : c.polygon ≡ i + place
   pub there : HasSide polygons (corner place c.side)
 
-sides_from_in : {X : Type 0} (i : ℕ) (polygons : List (List X)) (c : Corner) → IsIn (sides_from i polygons) c → StandsFrom i polygons c
+pub sides_from_in : {X : Type 0} (i : ℕ) (polygons : List (List X)) (c : Corner) → IsIn (sides_from i polygons) c → StandsFrom i polygons c
 sides_from_in i [] c h = absurd h
 sides_from_in i (polygon ∷ polygons) c h = elim (in_cases (row i 0 (length polygon)) (sides_from (i + 1) polygons) c h) [
   | inl k ↦
