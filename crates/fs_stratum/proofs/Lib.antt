@@ -15,3 +15,4 @@ pub mod EulerSum
 pub mod Parity
 pub mod OneList
 pub mod SomeList
+pub mod SomeGenus

@@ -96,7 +96,7 @@ module _ (s : GluedPolygons) (surface : IsSurface s) where
       let number : x.k ≡ y.k = count_one _ _ x.k y.k p.number (subst (λ c. IsConeNumber s c y.k) (sym first) q.number) in
       λ i. record { first = first i; k = number i }
 
-  cone_at : (cones : List Cone) (c : Cone) → AllByRecursion (IsCone s) cones → IsIn c cones → IsCone s c
+  pub cone_at : (cones : List Cone) (c : Cone) → AllByRecursion (IsCone s) cones → IsIn c cones → IsCone s c
   cone_at [] c all i = absurd i
   cone_at (x ∷ cones) c all i = elim i [ inl e ↦ subst (IsCone s) (sym e) all.0 | inr j ↦ cone_at cones c all.1 j ]
 
