@@ -2,7 +2,7 @@
 use Rattle.std.specs.Prelude.{ℕ, List, ◌++◌, codes}
 use Rattle.std.specs.Fmt.{decimal}
 use Rattle.fs_plane.specs.declared.sites.Site.{Site}
-use Rattle.fs_plane.specs.declared.sites.Site.TheVariants.{Scale, Close, Corner}
+use Rattle.fs_plane.specs.declared.sites.Site.TheVariants.{Scale, Close, Corner, Area, AreaScale}
 
 -- three numbers with a space before each
 abbrev pub three_numbers : ℕ → ℕ → ℕ → List ℕ
@@ -12,3 +12,5 @@ abbrev pub site_text : Site → List ℕ
 site_text (Scale polygon side place) = codes "scale" ++ three_numbers polygon side place
 site_text (Close polygon side place) = codes "close" ++ three_numbers polygon side place
 site_text (Corner polygon side place) = codes "corner" ++ three_numbers polygon side place
+site_text (Area polygon corner place) = codes "area" ++ three_numbers polygon corner place
+site_text (AreaScale place) = codes "areascale " ++ decimal place

@@ -25,6 +25,12 @@ pub fn print_site(alloc: Global, site: &Site) -> Result<String, NoMemory>
             side,
             place,
         } => format!(in alloc; "corner {polygon} {side} {place}")?,
+        Site::Area {
+            polygon,
+            corner,
+            place,
+        } => format!(in alloc; "area {polygon} {corner} {place}")?,
+        Site::AreaScale { place } => format!(in alloc; "areascale {place}")?,
     };
     Ok(text)
 }

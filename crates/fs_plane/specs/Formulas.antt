@@ -1,10 +1,13 @@
 -- The formulas of the plane as checked computations. Their places follow those of the steps that stand before them.
-use Rattle.std.specs.Prelude.{ℕ, ◌+◌, Result}
-use Rattle.fs_quadratic.specs.Ring.{Quadratic}
+use Rattle.std.specs.Prelude.{ℕ, ◌+◌, Bool, false, Result, Ok}
+use Rattle.std.specs.Ordering.{is_gt}
+use Rattle.std.specs.declared.cmp.Ordering.{Ordering}
+use Rattle.std.specs.declared.cmp.Ordering.TheVariants.{Less, Equal, Greater}
+use Rattle.fs_quadratic.specs.Ring.{Quadratic, sign}
 use Rattle.fs_quadratic.specs.Width.{Fits, MulFits}
 use Rattle.fs_plane.specs.declared.sites.Place.{Place}
 use Rattle.fs_plane.specs.declared.vector.V2.{V2}
-use Rattle.fs_plane.specs.Vector.{cross, dot}
+use Rattle.fs_plane.specs.Vector.{vector_neg, cross, dot}
 use Rattle.fs_plane.specs.Checked.{◌>>=◌, checked_product, checked_sum, checked_difference}
 
 -- a.x·b.y - a.y·b.x
@@ -24,6 +27,22 @@ dot_after before d a b = do
 -- a.x·a.x + a.y·a.y
 unfoldable pub norm_after : ℕ → ℕ → V2 → Result Quadratic Place
 norm_after before d a = dot_after before d a a
+
+-- whether a number that is computed is above 0
+abbrev pub is_above_zero : ℕ → Result Quadratic Place → Result Bool Place
+is_above_zero d computed = computed >>= (λ x. Ok (is_gt (sign d x)))
+
+-- how a vector stands to the sector that begins at a vector, by the sign of their cross product: to the right not in it; on the line, if it is along; to the left, if the end is to the left of it
+abbrev pub by_turn : Ordering → (along ends : Result Bool Place) → Result Bool Place
+by_turn Less along ends = Ok false
+by_turn Equal along ends = along
+by_turn Greater along ends = ends
+
+-- whether v is in the sector of a corner
+unfoldable pub in_sector_after : ℕ → ℕ → V2 → V2 → V2 → Result Bool Place
+in_sector_after before d outgoing incoming v = do
+  turn ← cross_after before d outgoing v
+  by_turn (sign d turn) (is_above_zero d (dot_after (before + 3) d outgoing v)) (is_above_zero d (cross_after (before + 6) d v (vector_neg incoming)))
 
 -- all numbers of the cross product are within the width
 abbrev pub CrossFits : ℕ → V2 → V2 → Type 0

@@ -4,7 +4,8 @@ use Rattle.std.specs.Ordering.{is_gt, is_lt}
 use Rattle.std.specs.declared.cmp.Ordering.{Ordering}
 use Rattle.std.specs.declared.cmp.Ordering.TheVariants.{Less, Equal, Greater}
 use Rattle.fs_ring.specs.Vector as plane
-use Rattle.fs_quadratic.specs.Ring.{Quadratic, quadratic, zero, add, neg, sign}
+use Rattle.fs_ring.specs.Direction.{InSector}
+use Rattle.fs_quadratic.specs.Ring.{Quadratic, quadratic, zero, add, neg, sign, IsPositive}
 use Rattle.fs_quadratic.specs.Width.{IsSmall}
 use Rattle.fs_plane.specs.declared.vector.V2.{V2}
 
@@ -43,6 +44,10 @@ cross d a b = plane.cross (quadratic d) (vector_of a) (vector_of b)
 -- the dot product
 abbrev pub dot : ℕ → V2 → V2 → Quadratic
 dot d a b = plane.dot (quadratic d) (vector_of a) (vector_of b)
+
+-- v stands in the sector of a corner: it runs counterclockwise from the side that begins there, included, to the opposite of the side that ends there, excluded
+abbrev pub IsInSector : ℕ → V2 → V2 → V2 → Type 0
+IsInSector d outgoing incoming v = InSector (quadratic d) (IsPositive d) (vector_of outgoing) (vector_of (vector_neg incoming)) (vector_of v)
 
 -- the squared length
 abbrev pub norm : ℕ → V2 → Quadratic

@@ -1,32 +1,42 @@
-ghost use Rattle.std.specs.Prelude.{◌≡◌};
+ghost use Rattle.std.specs.Prelude.{◌≡◌, ◌≤◌, ◌↔◌, IfOk, IsTrue};
 ghost use Rattle.fs_plane.specs.Checked.{checked_product, checked_sum, checked_difference};
-ghost use Rattle.fs_plane.specs.Formulas.{cross_after, dot_after, norm_after};
-ghost use Rattle.fs_plane.specs.Vector.{IsSmallVector, cross, dot};
+ghost use Rattle.fs_plane.specs.Formulas.{cross_after, dot_after, norm_after, in_sector_after, is_above_zero};
+ghost use Rattle.fs_plane.specs.Vector.{IsSmallVector, IsInSector, cross, dot};
 
 use crate::sites::Place;
 use crate::vector::V2;
 use fs_quadratic::{Elem, Field};
+use std::cmp::Ordering;
 
 /// The cross product a.x·b.y - a.y·b.x, or the first place that leaves the width: place 1 is
 /// a.x·b.y, place 2 is a.y·b.x, and place 3 their difference.
 pub fn cross(field: Field, a: V2, b: V2) -> Result<Elem, Place>
     ensures { result ≡ cross_after 0 field.d a b }
 {
+    cross_after(0, field, a, b)
+}
+
+// The same behind so many other places.
+fn cross_after(before: u32, field: Field, a: V2, b: V2) -> Result<Elem, Place>
+    requires { before ≤ 1000 }
+    ensures { result ≡ cross_after before field.d a b }
+{
     if a.x.is_small() && a.y.is_small() && b.x.is_small() && b.y.is_small() {
         Ok(cross_small(field, a, b))
     } else {
-        cross_checked(field, a, b)
+        cross_checked(before, field, a, b)
     }
 }
 
 // The same for vectors of any size.
 #[tactic(auto, unfolding(crate::specs::Formulas::cross_after))]
-fn cross_checked(field: Field, a: V2, b: V2) -> Result<Elem, Place>
-    ensures { result ≡ cross_after 0 field.d a b }
+fn cross_checked(before: u32, field: Field, a: V2, b: V2) -> Result<Elem, Place>
+    requires { before ≤ 1000 }
+    ensures { result ≡ cross_after before field.d a b }
 {
-    let left = product_at(1, field, a.x, b.y)?;
-    let right = product_at(2, field, a.y, b.x)?;
-    difference_at(3, left, right)
+    let left = product_at(before + 1, field, a.x, b.y)?;
+    let right = product_at(before + 2, field, a.y, b.x)?;
+    difference_at(before + 3, left, right)
 }
 
 /// The dot product a.x·b.x + a.y·b.y, or the first place that leaves the width: place 1 is
@@ -34,21 +44,30 @@ fn cross_checked(field: Field, a: V2, b: V2) -> Result<Elem, Place>
 pub fn dot(field: Field, a: V2, b: V2) -> Result<Elem, Place>
     ensures { result ≡ dot_after 0 field.d a b }
 {
+    dot_after(0, field, a, b)
+}
+
+// The same behind so many other places.
+fn dot_after(before: u32, field: Field, a: V2, b: V2) -> Result<Elem, Place>
+    requires { before ≤ 1000 }
+    ensures { result ≡ dot_after before field.d a b }
+{
     if a.x.is_small() && a.y.is_small() && b.x.is_small() && b.y.is_small() {
         Ok(dot_small(field, a, b))
     } else {
-        dot_checked(field, a, b)
+        dot_checked(before, field, a, b)
     }
 }
 
 // The same for vectors of any size.
 #[tactic(auto, unfolding(crate::specs::Formulas::dot_after))]
-fn dot_checked(field: Field, a: V2, b: V2) -> Result<Elem, Place>
-    ensures { result ≡ dot_after 0 field.d a b }
+fn dot_checked(before: u32, field: Field, a: V2, b: V2) -> Result<Elem, Place>
+    requires { before ≤ 1000 }
+    ensures { result ≡ dot_after before field.d a b }
 {
-    let left = product_at(1, field, a.x, b.x)?;
-    let right = product_at(2, field, a.y, b.y)?;
-    sum_at(3, left, right)
+    let left = product_at(before + 1, field, a.x, b.x)?;
+    let right = product_at(before + 2, field, a.y, b.y)?;
+    sum_at(before + 3, left, right)
 }
 
 /// The squared length, which is the dot product of a with itself, and has its places.
@@ -58,6 +77,53 @@ pub fn norm(field: Field, a: V2) -> Result<Elem, Place>
 {
     let same = a;
     dot(field, a, same)
+}
+
+/// Whether v is in the sector of a corner: from the side that goes out there, included,
+/// counterclockwise to the opposite of the side that comes in there, excluded. The sector is less
+/// than half a turn.
+///
+/// Places 1 to 3 are the cross product of the outgoing side and v: where it is below 0, v isn't in
+/// the sector. Places 4 to 6 are their dot product, where the cross product is 0: v is in the
+/// sector if the dot product is above 0. Places 7 to 9 are the cross product of v and the opposite
+/// of the incoming side, where the first one is above 0: v is in the sector if this is above 0
+/// too. The answer is the first place that leaves the width, where one does.
+pub fn in_sector(field: Field, out: V2, incoming: V2, v: V2) -> Result<bool, Place>
+    ensures formula { result ≡ in_sector_after 0 field.d out incoming v }
+    ensures sector { IfOk result (λ held. IsTrue held ↔ IsInSector field.d out incoming v) }
+{
+    test_sector(field, out, incoming, v)
+}
+
+// The same by its formula alone.
+#[tactic(auto, unfolding(crate::specs::Formulas::in_sector_after))]
+fn test_sector(field: Field, out: V2, incoming: V2, v: V2) -> Result<bool, Place>
+    ensures { result ≡ in_sector_after 0 field.d out incoming v }
+{
+    let start = out;
+    let same = v;
+    let turn = cross_after(0, field, start, same)?;
+    match field.sign(turn) {
+        Ordering::Less => Ok(false),
+        Ordering::Equal => is_along(field, out, v),
+        Ordering::Greater => is_left(field, v, incoming.neg()),
+    }
+}
+
+// Whether a parallel vector points the same way.
+fn is_along(field: Field, a: V2, b: V2) -> Result<bool, Place>
+    ensures { result ≡ is_above_zero field.d (dot_after 3 field.d a b) }
+{
+    let value = dot_after(3, field, a, b)?;
+    Ok(field.sign(value) == Ordering::Greater)
+}
+
+// Whether a vector is to the left of another.
+fn is_left(field: Field, a: V2, b: V2) -> Result<bool, Place>
+    ensures { result ≡ is_above_zero field.d (cross_after 6 field.d a b) }
+{
+    let value = cross_after(6, field, a, b)?;
+    Ok(field.sign(value) == Ordering::Greater)
 }
 
 // The cross product of small vectors, which always fits.

@@ -9,6 +9,6 @@ mod tests;
 mod vector;
 
 pub use corners::Corner;
-pub use formulas::{cross, dot, norm};
+pub use formulas::{cross, dot, in_sector, norm};
 pub use sites::{Place, Site, Stop};
 pub use vector::V2;

@@ -9,11 +9,36 @@ pub enum Site {
     /// A coordinate of side `side` of a polygon, times the common denominator: places 1 and 2 are
     /// the common denominator up to its x and its y, places 3 and 4 the parts of x, 5 and 6 those
     /// of y.
-    Scale { polygon: u32, side: u32, place: u32 },
+    Scale {
+        polygon: u32,
+        side: u32,
+        place: u32,
+    },
     /// The place of vertex `side` of a polygon plus that side: place 1 is x, place 2 is y.
-    Close { polygon: u32, side: u32, place: u32 },
+    Close {
+        polygon: u32,
+        side: u32,
+        place: u32,
+    },
     /// The cross product of the two sides at a corner, by its three places.
-    Corner { polygon: u32, side: u32, place: u32 },
+    Corner {
+        polygon: u32,
+        side: u32,
+        place: u32,
+    },
+    /// The area of a polygon's triangle of corner 0, corner `corner` and the next one: places 1 to
+    /// 3 are the cross product of the places of the latter two, place 4 its sum with what came
+    /// before.
+    Area {
+        polygon: u32,
+        corner: u32,
+        place: u32,
+    },
+    /// The area in true size: half of that sum over the denominator is place 1, and this over the
+    /// denominator once more place 2.
+    AreaScale {
+        place: u32,
+    },
 }
 
 /// Why a computation over a surface gives no answer.

@@ -1,15 +1,17 @@
-use crate::{Place, V2, cross, dot, norm};
+use crate::{Place, V2, cross, dot, in_sector, norm};
 use fs_quadratic::{Elem, Field};
 use std::process::Abort;
 use std::test::Fail;
 
 type Pair = (i128, i128);
 
+type Vector = (Pair, Pair);
+
 type Answer = Result<Pair, u32>;
 
 // d, two vectors, and their cross product, their dot product and the first one's norm, or the
 // place where these stop; computed with whole numbers of any size.
-const FORMULAS: [(u16, (Pair, Pair), (Pair, Pair), [Answer; 3]); 15] = [
+const FORMULAS: [(u16, Vector, Vector, [Answer; 3]); 15] = [
     (
         2,
         ((3, 1), (-2, 5)),
@@ -182,13 +184,193 @@ const FORMULAS: [(u16, (Pair, Pair), (Pair, Pair), [Answer; 3]); 15] = [
     ),
 ];
 
+// d, the outgoing and the incoming side of a corner, a vector, and whether it is in the sector, or
+// the place where the test stops; computed with whole numbers of any size.
+const SECTORS: [(u16, Vector, Vector, Vector, Result<bool, u32>); 25] = [
+    (
+        2,
+        ((1, 0), (0, 0)),
+        ((0, 0), (-1, 0)),
+        ((1, 0), (0, 0)),
+        Ok(true),
+    ),
+    (
+        2,
+        ((1, 0), (0, 0)),
+        ((0, 0), (-1, 0)),
+        ((3, 0), (0, 0)),
+        Ok(true),
+    ),
+    (
+        2,
+        ((1, 0), (0, 0)),
+        ((0, 0), (-1, 0)),
+        ((0, 0), (1, 0)),
+        Ok(false),
+    ),
+    (
+        2,
+        ((1, 0), (0, 0)),
+        ((0, 0), (-1, 0)),
+        ((1, 0), (1, 0)),
+        Ok(true),
+    ),
+    (
+        2,
+        ((1, 0), (0, 0)),
+        ((0, 0), (-1, 0)),
+        ((-1, 0), (0, 0)),
+        Ok(false),
+    ),
+    (
+        2,
+        ((1, 0), (0, 0)),
+        ((0, 0), (-1, 0)),
+        ((0, 0), (-1, 0)),
+        Ok(false),
+    ),
+    (
+        2,
+        ((1, 0), (0, 0)),
+        ((0, 0), (-1, 0)),
+        ((0, 0), (0, 0)),
+        Ok(false),
+    ),
+    (
+        2,
+        ((1, 0), (0, 0)),
+        ((0, 0), (-1, 0)),
+        ((1, 0), (-1, 0)),
+        Ok(false),
+    ),
+    (
+        2,
+        ((1, 0), (0, 0)),
+        ((0, 0), (-1, 0)),
+        ((-1, 0), (1, 0)),
+        Ok(false),
+    ),
+    (
+        2,
+        ((1, 0), (0, 0)),
+        ((1, 0), (0, -1)),
+        ((-1, 0), (0, 2)),
+        Ok(true),
+    ),
+    (
+        2,
+        ((1, 0), (0, 0)),
+        ((1, 0), (0, -1)),
+        ((-3, 0), (0, 2)),
+        Ok(false),
+    ),
+    (
+        2,
+        ((1, 0), (0, 0)),
+        ((1, 0), (0, -1)),
+        ((-2, 0), (0, 2)),
+        Ok(false),
+    ),
+    (
+        2,
+        ((0, 1), (2, 0)),
+        ((1, 0), (-1, 0)),
+        ((1, 0), (0, 1)),
+        Ok(true),
+    ),
+    (
+        2,
+        ((0, 1), (2, 0)),
+        ((1, 0), (-1, 0)),
+        ((-1, 0), (0, -1)),
+        Ok(false),
+    ),
+    (
+        2,
+        ((18446744073709551616, 0), (0, 0)),
+        ((0, 0), (-1, 0)),
+        ((0, 0), (18446744073709551616, 0)),
+        Err(1),
+    ),
+    (
+        2,
+        ((0, 0), (18446744073709551616, 0)),
+        ((-1, 0), (0, 0)),
+        ((18446744073709551616, 0), (0, 0)),
+        Err(2),
+    ),
+    (
+        2,
+        ((1, 0), (18446744073709551616, 0)),
+        ((-1, 0), (0, 0)),
+        ((18446744073709551616, 0), (1, 0)),
+        Err(2),
+    ),
+    (
+        2,
+        ((170141183460469231731687303715884105727, 0), (1, 0)),
+        ((0, 0), (-1, 0)),
+        ((-1, 0), (1, 0)),
+        Err(3),
+    ),
+    (
+        2,
+        ((18446744073709551616, 0), (0, 0)),
+        ((0, 0), (-1, 0)),
+        ((18446744073709551616, 0), (0, 0)),
+        Err(4),
+    ),
+    (
+        2,
+        ((0, 0), (18446744073709551616, 0)),
+        ((-1, 0), (0, 0)),
+        ((0, 0), (18446744073709551616, 0)),
+        Err(5),
+    ),
+    (
+        2,
+        ((9223372036854775808, 0), (9223372036854775808, 0)),
+        ((0, 0), (-1, 0)),
+        ((9223372036854775808, 0), (9223372036854775808, 0)),
+        Err(6),
+    ),
+    (
+        2,
+        ((1, 0), (0, 0)),
+        ((0, 0), (-18446744073709551616, 0)),
+        ((18446744073709551616, 0), (1, 0)),
+        Err(7),
+    ),
+    (
+        2,
+        ((1, 0), (0, 0)),
+        ((-18446744073709551616, 0), (-1, 0)),
+        ((0, 0), (18446744073709551616, 0)),
+        Err(8),
+    ),
+    (
+        2,
+        ((1, 0), (0, 0)),
+        ((-1, 0), (-170141183460469231731687303715884105727, 0)),
+        ((1, 0), (1, 0)),
+        Ok(true),
+    ),
+    (
+        2,
+        ((1, 0), (0, 0)),
+        ((1, 0), (-170141183460469231731687303715884105727, 0)),
+        ((1, 0), (1, 0)),
+        Err(9),
+    ),
+];
+
 fn elem(rt: &impl Abort, part: Pair) -> Elem {
     assert!(rt; part.0 != i128::MIN);
     assert!(rt; part.1 != i128::MIN);
     Elem::new(part.0, part.1)
 }
 
-fn vector(rt: &impl Abort, parts: (Pair, Pair)) -> V2 {
+fn vector(rt: &impl Abort, parts: Vector) -> V2 {
     V2 {
         x: elem(rt, parts.0),
         y: elem(rt, parts.1),
@@ -218,6 +400,20 @@ fn formulas_and_their_places(rt: HostRuntime) -> Result<(), Fail> {
             "dot of {a:?} and {b:?}"
         );
         assert_eq!(rt; norm(field, a), answer(&rt, expected[2]), "norm of {a:?}");
+    }
+    Ok(())
+}
+
+#[test]
+fn sectors_and_their_places(rt: HostRuntime) -> Result<(), Fail> {
+    for (d, out, incoming, v, expected) in SECTORS {
+        let field = Field::new(d)?;
+        let (out, incoming, v) = (vector(&rt, out), vector(&rt, incoming), vector(&rt, v));
+        assert_eq!(rt;
+            in_sector(field, out, incoming, v),
+            expected.map_err(Place),
+            "{v:?} in the sector from {out:?} to the opposite of {incoming:?}"
+        );
     }
     Ok(())
 }
