@@ -82,7 +82,7 @@ sum_of_mapped f (row ∷ rows) =
     ∙ ap (λ n. length row + n) (sum_of_mapped f rows)
     ∙ sym (sum_by-cons length row rows)
 
-each_short : {X : Type 0} (rows : List (List X)) (most : ℕ) → sum_by length rows ≤ most → AllByRecursion (λ row. length row ≤ most) rows
+pub each_short : {X : Type 0} (rows : List (List X)) (most : ℕ) → sum_by length rows ≤ most → AllByRecursion (λ row. length row ≤ most) rows
 each_short [] most few = tt
 each_short (row ∷ rows) most few =
     let sum = sum_by-cons length row rows in

@@ -16,3 +16,4 @@ pub mod Glued
 pub mod InSize
 pub mod Judged
 pub mod OneSurface
+pub mod AreaSums

@@ -13,7 +13,7 @@ use Rattle.fs_gluing.specs.Places.{places_from, all_places}
 use Rattle.fs_gluing.specs.Surface.{GluedPolygons, IsPolygon, IsSurface, side_vectors}
 use Rattle.fs_gluing.proofs.Corners.{StandsIn}
 
-length-places_from : (at : V2) (vectors : List V2) → length (places_from at vectors) ≡ length vectors
+pub length-places_from : (at : V2) (vectors : List V2) → length (places_from at vectors) ≡ length vectors
 length-places_from at [] = refl
 length-places_from at (v ∷ vectors) = ap (λ n. suc n) (length-places_from (vector_add at v) vectors)
 
@@ -29,7 +29,7 @@ total-next at (w ∷ vectors) (suc j) v e =
     let more : suc (j + 1) ≡ suc j + 1 = omega arith in
     total-next (vector_add at w) vectors j v e ∙ ap (λ n. vector_total_from at (take n (w ∷ vectors))) more
 
-all_at : {X : Type 0} (P : X → Type 0) (xs : List X) (k : ℕ) (x : X) → AllByRecursion P xs → slice_get xs k ≡ Some x → P x
+pub all_at : {X : Type 0} (P : X → Type 0) (xs : List X) (k : ℕ) (x : X) → AllByRecursion P xs → slice_get xs k ≡ Some x → P x
 all_at P [] k x a e = cc
 all_at P (y ∷ xs) zero x a e = subst P (same_Some y x e) a.0
 all_at P (y ∷ xs) (suc k) x a e = all_at P xs k x a.1 e
@@ -41,6 +41,14 @@ row_is polygons k polygon row there is =
     is ∙ get_or_from_slice_get (all_places (map side_vectors polygons)) k (places_from vector_zero (side_vectors polygon)) row
     (slice_get-map (places_from vector_zero) (map side_vectors polygons) k
     ∙ ap (option_map (places_from vector_zero)) (slice_get-map side_vectors polygons k ∙ ap (option_map side_vectors) there))
+
+pub row_places : (polygons : List (List Side)) (k : ℕ) (row : List V2) → row ≡ get_or (all_places (map side_vectors polygons)) k row
+    → IfSome (slice_get polygons k) (λ polygon. row ≡ places_from vector_zero (side_vectors polygon))
+row_places polygons k row is = row_places_by (slice_get polygons k) refl
+  where
+    row_places_by : (o : Option (List Side)) → slice_get polygons k ≡ o → IfSome o (λ polygon. row ≡ places_from vector_zero (side_vectors polygon))
+    row_places_by None e = tt
+    row_places_by (Some polygon) e = row_is polygons k polygon row e is
 
 -- the row of polygon k, as it is read
 pub row_read : (polygons others : GluedPolygons) (places rows : List (List V2)) (k : ℕ) (item row : List V2) → polygons ≡ others → places ≡ all_places (map side_vectors polygons.polygons)

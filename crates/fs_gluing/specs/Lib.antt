@@ -11,3 +11,4 @@ pub mod Gluing
 pub mod FirstFault
 pub mod Checks
 pub mod Marks
+pub mod Area

@@ -1,6 +1,7 @@
 // Translation surfaces: polygons whose sides are glued in pairs by translations.
 #![tactic(auto)]
 
+mod areas;
 mod building;
 mod faults;
 mod glue_lines;

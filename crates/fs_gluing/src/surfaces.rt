@@ -45,7 +45,7 @@ impl Surface {
     ghost use Rattle.std.specs.Prelude.{map};
     ghost use Rattle.fs_plane.specs.Vector.{vector_zero, vector_add};
     ghost use Rattle.fs_gluing.specs.Convex.{corner_place};
-    ghost use Rattle.fs_gluing.specs.Places.{all_places};
+    ghost use Rattle.fs_gluing.specs.Places.{all_places, places_from};
     ghost use Rattle.fs_gluing.specs.Polygons.{at_side, HasSide};
     ghost use Rattle.fs_gluing.specs.Surface.{IsSurface, side_vectors};
     ghost use Rattle.fs_gluing.specs.Turning.{TurnsTo, AreOnePoint, side_before};
@@ -139,6 +139,14 @@ impl Surface {
     {
         let places = self.places.as_slice()[c.polygon as usize].as_slice();
         places[c.side as usize]
+    }
+
+    // The places of the corners of polygon i, corner 0 being at (0,0).
+    pub(crate) fn places(&self, i: u16) -> &[V2]
+        requires { i < length self.now.polygons }
+        ensures { IfSome (slice_get self.now.polygons i) (λ polygon. result.now ≡ places_from vector_zero (side_vectors polygon)) }
+    {
+        self.places.as_slice()[i as usize].as_slice()
     }
 
     /// The next corner counterclockwise round the vertex of a corner: the start of the side that

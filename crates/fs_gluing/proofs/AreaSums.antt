@@ -1,0 +1,237 @@
+-- The area, triangle by triangle and polygon by polygon.
+use Rattle.std.proofs.Common.{◌≡◌, ℕ, zero, suc, ◌+◌, ◌-◌, ◌<◌, ◌≤◌, Bool, true, false, Result, Ok, Err, Option, Some, List, [], ◌∷◌, ◌++◌, length, map, drop, sym, ap, ◌∙◌, refl, subst, arith}
+use Rattle.std.proofs.lemmas.Grind.{common_steps}
+use Rattle.std.proofs.lemmas.List.{drop_more, length-map, length-drop}
+use Rattle.std.proofs.lemmas.Option.{slice_get-map, slice_get_within, get_or_from_slice_get, IfSome_then}
+use Rattle.std.specs.Option.{IfSome, option_map}
+use Rattle.std.specs.Bool.{Decides}
+use Rattle.std.specs.Result.{IfOk}
+use Rattle.std.specs.List.{slice_get}
+use Rattle.fs_ring.specs.Operations.{Operations}
+use Rattle.fs_ring.specs.CommutativeRing.{IsCommutativeRing}
+use Rattle.fs_ring.specs.Vector as plane
+use Rattle.fs_ring.proofs.Solver.{expressions as E, ◌≐◌}
+use Rattle.fs_ring.proofs.PlaneSolver.{plane_identity}
+use Rattle.fs_quadratic.specs.Ring as ring
+use Rattle.fs_quadratic.specs.Ring.{Quadratic, quadratic, add}
+use Rattle.fs_quadratic.specs.Width.{Fits, is_fitting}
+use Rattle.fs_quadratic.proofs.Laws.{quadratic_ring}
+use Rattle.fs_quadratic.proofs.WidthTests.{Decides-is_fitting}
+use Rattle.fs_plane.specs.declared.sites.Place.{Place}
+use Rattle.fs_plane.specs.declared.sites.Site.{Site}
+use Rattle.fs_plane.specs.declared.sites.Site.TheVariants as sites
+use Rattle.fs_plane.specs.declared.vector.V2.{V2}
+use Rattle.fs_plane.specs.Vector.{vector_of, vector_zero, cross}
+use Rattle.fs_plane.specs.Checked.{◌>>=◌, checked_sum, step}
+use Rattle.fs_plane.specs.Formulas.{cross_after}
+use Rattle.fs_plane.proofs.FormulaLaws.{cross_value}
+use Rattle.fs_gluing.specs.declared.surfaces.Side.{Side}
+use Rattle.fs_gluing.specs.Area.{Triangle, triangles_from, triangles_of, all_triangles, triangles, twice_areas_from, twice_area, add_triangle, behind, sum_after}
+use Rattle.fs_gluing.specs.Places.{places_from}
+use Rattle.fs_gluing.specs.Surface.{GluedPolygons, IsSurface, side_vectors}
+use Rattle.fs_gluing.proofs.EachPolygon.{each_short}
+use Rattle.fs_gluing.proofs.Items.{IsItem}
+use Rattle.fs_gluing.proofs.Places.{all_at, length-places_from}
+
+-- ---- one list of triangles after another
+
+-- what comes after a sum
+abbrev go_on : Result Quadratic Site → (Quadratic → Result Quadratic Site) → Result Quadratic Site
+go_on (Ok sum) next = next sum
+go_on (Err site) next = Err site
+
+behind-append : (d : ℕ) (t : Triangle) (r : Result Quadratic Place) (xs ys : List Triangle)
+    → ((sum : Quadratic) → sum_after d sum (xs ++ ys) ≡ go_on (sum_after d sum xs) (λ next. sum_after d next ys))
+    → behind t r (λ sum. sum_after d sum (xs ++ ys)) ≡ go_on (behind t r (λ sum. sum_after d sum xs)) (λ next. sum_after d next ys)
+behind-append d t (Ok sum) xs ys h = h sum
+behind-append d t (Err stop) xs ys h = refl
+
+sum_after-append : (d : ℕ) (sum : Quadratic) (xs ys : List Triangle) → sum_after d sum (xs ++ ys) ≡ go_on (sum_after d sum xs) (λ next. sum_after d next ys)
+sum_after-append d sum [] ys = refl
+sum_after-append d sum (t ∷ xs) ys = behind-append d t (add_triangle d sum t) xs ys (λ next. sum_after-append d next xs ys)
+
+-- as it goes on behind the sum of the first of them
+sum_after-ok : (d : ℕ) (sum next : Quadratic) (xs ys : List Triangle) → Ok next ≡ sum_after d sum xs → sum_after d sum (xs ++ ys) ≡ sum_after d next ys
+sum_after-ok d sum next xs ys e = sum_after-append d sum xs ys ∙ ap (λ r. go_on r (λ n. sum_after d n ys)) (sym e)
+
+-- as it stops there
+sum_after-stop : (d : ℕ) (sum : Quadratic) (site : Site) (xs ys : List Triangle) → Err site ≡ sum_after d sum xs → sum_after d sum (xs ++ ys) ≡ Err site
+sum_after-stop d sum site xs ys e = sum_after-append d sum xs ys ∙ ap (λ r. go_on r (λ n. sum_after d n ys)) (sym e)
+
+-- ---- one triangle
+
+stops_by : (t : Triangle) (test : Bool) (P : Type 0) (value : Quadratic) → Decides test P → ¬ P → Err (sites.Area t.polygon t.corner 4) ≡ behind t (step 4 test value) (λ next. Ok next)
+stops_by t true P value decides n = absurd (n (decides.0 refl))
+stops_by t false P value decides n = refl
+
+-- the sum leaves the width
+pub triangle_stops : (d : ℕ) (sum part : Quadratic) (t : Triangle) (polygon corner : ℕ) → polygon ≡ t.polygon → corner ≡ t.corner
+    → Ok part ≡ cross_after 0 d t.one t.two → ¬ Fits (add sum part) → Err (sites.Area polygon corner 4) ≡ sum_after d sum (t ∷ [])
+triangle_stops d sum part t polygon corner same also crossed n =
+    ap (λ i. Err (sites.Area i corner 4)) same
+    ∙ ap (λ j. Err (sites.Area t.polygon j 4)) also
+    ∙ stops_by t (is_fitting (add sum part)) (Fits (add sum part)) (add sum part) (Decides-is_fitting (add sum part)) n
+    ∙ ap (λ c. behind t (c >>= (λ x. checked_sum 4 sum x)) (λ next. Ok next)) crossed
+
+-- ---- the triangles of one polygon
+
+-- those from corner k on
+abbrev pub triangles_at : ℕ → ℕ → List V2 → List Triangle
+triangles_at i k places = triangles_from i k (drop k places)
+
+abbrev pub triangle : ℕ → ℕ → V2 → V2 → Triangle
+triangle i k one two = record { polygon = i; corner = k; one = one; two = two }
+
+next_item : {X : Type 0} (xs : List X) (k : ℕ) (x : X) → IsItem xs k x → drop k xs ≡ x ∷ drop (k + 1) xs
+next_item xs k x item = drop_more xs k x item.inside ∙ ap (λ y. y ∷ drop (k + 1) xs) (sym item.is)
+
+triangles_at-more : (i k : ℕ) (places : List V2) (one two : V2) → IsItem places k one → IsItem places (k + 1) two
+    → triangles_at i k places ≡ triangle i k one two ∷ triangles_at i (k + 1) places
+triangles_at-more i k places one two first second =
+    ap (triangles_from i k) (next_item places k one first ∙ ap (λ ps. one ∷ ps) (next_item places (k + 1) two second))
+    ∙ ap (λ ps. triangle i k one two ∷ triangles_from i (k + 1) ps) (sym (next_item places (k + 1) two second))
+
+triangles_from-short : (i k : ℕ) (places : List V2) → length places ≤ 1 → triangles_from i k places ≡ []
+triangles_from-short i k [] l = refl
+triangles_from-short i k (one ∷ []) l = refl
+triangles_from-short i k (one ∷ (two ∷ places)) l = absurd (omega arith)
+
+-- of the triangles of polygon i those before the corners j - 1 and j are in the sum
+pub record AddedTo (d : ℕ) (sum : Quadratic) (i : ℕ) (places : List V2) (j : ℕ) (total : Quadratic) : Type 0 where
+  pub is : sum_after d sum (triangles_at i 1 places) ≡ sum_after d total (triangles_at i (j - 1) places)
+
+-- the triangle of the corners j - 1 and j stands first of those that are left
+next_triangle : (i j : ℕ) (places : List V2) (one two : V2) → 2 ≤ j → IsItem places (j - 1) one → IsItem places j two
+    → triangles_at i (j - 1) places ≡ triangle i (j - 1) one two ∷ triangles_at i (j + 1 - 1) places
+next_triangle i j places one two l first second =
+    let there : j ≡ j - 1 + 1 = omega arith in
+    let next : j - 1 + 1 ≡ j + 1 - 1 = omega arith in
+    triangles_at-more i (j - 1) places one two first (subst (λ k. IsItem places k two) there second)
+    ∙ ap (λ k. triangle i (j - 1) one two ∷ triangles_at i k places) next
+
+pub added_more : (d : ℕ) (sum : Quadratic) (i : ℕ) (places : List V2) (j : ℕ) (total next : Quadratic) (one two : V2) → 2 ≤ j → IsItem places (j - 1) one → IsItem places j two
+    → Ok next ≡ sum_after d total (triangle i (j - 1) one two ∷ []) → AddedTo d sum i places j total → AddedTo d sum i places (j + 1) next
+added_more d sum i places j total next one two l first second e a = record {
+  is = a.is
+      ∙ ap (sum_after d total) (next_triangle i j places one two l first second)
+      ∙ sum_after-ok d total next (triangle i (j - 1) one two ∷ []) (triangles_at i (j + 1 - 1) places) e;
+}
+
+pub added_all : (d : ℕ) (sum : Quadratic) (i : ℕ) (places : List V2) (j : ℕ) (total : Quadratic) → length places ≤ j → AddedTo d sum i places j total
+    → Ok total ≡ sum_after d sum (triangles_at i 1 places)
+added_all d sum i places j total l a =
+    let short : length (drop (j - 1) places) ≤ 1 = omega (arith, length-drop (j - 1) places) in
+    sym (a.is ∙ ap (sum_after d total) (triangles_from-short i (j - 1) (drop (j - 1) places) short))
+
+-- ---- the polygons in turn
+
+some_item : {X : Type 0} (xs : List X) (k : ℕ) → k < length xs → (x : X) × (slice_get xs k ≡ Some x)
+some_item [] k l = absurd (omega arith)
+some_item (x ∷ xs) zero l = (x, refl)
+some_item (x ∷ xs) (suc k) l = some_item xs k (omega arith)
+
+value_at : {X : Type 0} (o : Option X) (P : X → Type 0) (x : X) → o ≡ Some x → IfSome o P → P x
+value_at o P x e h = subst (λ q. IfSome q P) e h
+
+-- a polygon has as many places as sides
+pub few_places : (s : GluedPolygons) (i : ℕ) (places : List V2) → IsSurface s → i < length s.polygons
+    → IfSome (slice_get s.polygons i) (λ polygon. places ≡ places_from vector_zero (side_vectors polygon)) → length places ≤ 1024
+few_places s i places surface l h =
+    let (polygon, there) = some_item s.polygons i l in
+    let is : places ≡ places_from vector_zero (side_vectors polygon) = value_at (slice_get s.polygons i) (λ polygon. places ≡ places_from vector_zero (side_vectors polygon)) polygon there h in
+    let same : length places ≡ length polygon = ap length is ∙ length-places_from vector_zero (side_vectors polygon) ∙ length-map polygon (λ side. side.vector) in
+    subst (λ n. n ≤ 1024) (sym same) (all_at (λ polygon. length polygon ≤ 1024) s.polygons i polygon (each_short s.polygons 1024 surface.sides) there)
+
+pub polygon_added : (polygons : List (List Side)) (i d d' : ℕ) (sum : Quadratic) (places : List V2) (r : Result Quadratic Site) → d' ≡ d
+    → IfSome (slice_get polygons i) (λ polygon. places ≡ places_from vector_zero (side_vectors polygon)) → r ≡ sum_after d' sum (triangles_at i 1 places)
+    → IfSome (slice_get polygons i) (λ polygon. r ≡ sum_after d sum (triangles_of i (side_vectors polygon)))
+polygon_added polygons i d d' sum places r same is e =
+    IfSome_then (slice_get polygons i) is
+    (λ polygon here. e ∙ ap (λ n. sum_after n sum (triangles_at i 1 places)) same ∙ ap (λ ps. sum_after d sum (triangles_at i 1 ps)) here)
+
+-- the triangles of the polygons from the i-th on
+abbrev triangles_after : List (List Side) → ℕ → List Triangle
+triangles_after polygons i = all_triangles i (drop i (map side_vectors polygons))
+
+polygon_next : (polygons : List (List Side)) (i : ℕ) (polygon : List Side) → slice_get polygons i ≡ Some polygon
+    → triangles_after polygons i ≡ triangles_of i (side_vectors polygon) ++ triangles_after polygons (i + 1)
+polygon_next polygons i polygon there =
+    let rows : List (List V2) = map side_vectors polygons in
+    let row : List V2 = side_vectors polygon in
+    let at : slice_get rows i ≡ Some row = slice_get-map side_vectors polygons i ∙ ap (option_map side_vectors) there in
+    ap (all_triangles i) (drop_more rows i row (slice_get_within rows i row at) ∙ ap (λ r. r ∷ drop (i + 1) rows) (get_or_from_slice_get rows i row row at))
+
+-- the polygons before the i-th are in the sum
+pub record SummedTo (d : ℕ) (polygons : List (List Side)) (i : ℕ) (sum : Quadratic) : Type 0 where
+  pub is : sum_after d ring.zero (triangles_after polygons 0) ≡ sum_after d sum (triangles_after polygons i)
+
+pub summed_more : (d : ℕ) (polygons : List (List Side)) (i : ℕ) (sum next : Quadratic) → i < length polygons
+    → IfSome (slice_get polygons i) (λ polygon. Ok next ≡ sum_after d sum (triangles_of i (side_vectors polygon))) → SummedTo d polygons i sum → SummedTo d polygons (i + 1) next
+summed_more d polygons i sum next l h s =
+    let (polygon, there) = some_item polygons i l in
+    record {
+      is = s.is
+          ∙ ap (sum_after d sum) (polygon_next polygons i polygon there)
+          ∙ sum_after-ok d sum next (triangles_of i (side_vectors polygon)) (triangles_after polygons (i + 1))
+          (value_at (slice_get polygons i) (λ polygon. Ok next ≡ sum_after d sum (triangles_of i (side_vectors polygon))) polygon there h);
+    }
+
+pub summed_stops : (d : ℕ) (polygons : List (List Side)) (i : ℕ) (sum : Quadratic) (site : Site) → i < length polygons
+    → IfSome (slice_get polygons i) (λ polygon. Err site ≡ sum_after d sum (triangles_of i (side_vectors polygon))) → SummedTo d polygons i sum
+    → Err site ≡ sum_after d ring.zero (triangles_after polygons 0)
+summed_stops d polygons i sum site l h s =
+    let (polygon, there) = some_item polygons i l in
+    sym (s.is
+    ∙ ap (sum_after d sum) (polygon_next polygons i polygon there)
+    ∙ sum_after-stop d sum site (triangles_of i (side_vectors polygon)) (triangles_after polygons (i + 1))
+    (value_at (slice_get polygons i) (λ polygon. Err site ≡ sum_after d sum (triangles_of i (side_vectors polygon))) polygon there h))
+
+no_more : (rows : List (List V2)) (n : ℕ) → length rows ≤ n → drop n rows ≡ []
+no_more rows n l = grind (arith, common_steps)
+
+pub summed_all : (d : ℕ) (polygons : List (List Side)) (n : ℕ) (sum : Quadratic) → length polygons ≤ n → SummedTo d polygons n sum
+    → Ok sum ≡ sum_after d ring.zero (triangles_after polygons 0)
+summed_all d polygons n sum l s =
+    let rows : List (List V2) = map side_vectors polygons in
+    let long : length rows ≤ n = omega (arith, length-map polygons side_vectors) in
+    sym (s.is ∙ ap (λ r. sum_after d sum (all_triangles n r)) (no_more rows n long))
+
+-- ---- what the sum is
+
+module _ {A : Type 0} {R : Operations A} (L : IsCommutativeRing R) where
+  twice_area-from_zero : (a b : plane.Vector A) → plane.twice_area R (plane.zero_vector R) a b ≡ plane.cross R a b
+  twice_area-from_zero a b = plane_identity L [] (a ∷ b ∷ []) (λ a b. plane.twice_area E (plane.zero_vector E) a b ≐ plane.cross E a b) refl
+
+abbrev twice_area_of : ℕ → Triangle → Quadratic
+twice_area_of d t = plane.twice_area (quadratic d) (vector_of vector_zero) (vector_of t.one) (vector_of t.two)
+
+cross_of : (d : ℕ) (t : Triangle) → cross d t.one t.two ≡ twice_area_of d t
+cross_of d t = sym (twice_area-from_zero (quadratic_ring d) (vector_of t.one) (vector_of t.two))
+
+value_of_step : {A : Type 0} (n : ℕ) (test : Bool) (value x : A) → step n test value ≡ Ok x → x ≡ value
+value_of_step n true value x e = cc
+value_of_step n false value x e = cc
+
+sum_of_part : (d : ℕ) (sum next : Quadratic) (t : Triangle) (r : Result Quadratic Place) → cross_after 0 d t.one t.two ≡ r
+    → r >>= (λ part. checked_sum 4 sum part) ≡ Ok next → next ≡ add sum (twice_area_of d t)
+sum_of_part d sum next t (Ok x) e f =
+    value_of_step 4 (is_fitting (add sum x)) (add sum x) next f ∙ ap (add sum) (cross_value 0 d t.one t.two x e ∙ cross_of d t)
+sum_of_part d sum next t (Err stop) e f = cc
+
+triangle_value : (d : ℕ) (sum next : Quadratic) (t : Triangle) → add_triangle d sum t ≡ Ok next → next ≡ add sum (twice_area_of d t)
+triangle_value d sum next t e = sum_of_part d sum next t (cross_after 0 d t.one t.two) refl e
+
+value_behind : (d : ℕ) (sum : Quadratic) (t : Triangle) (r : Result Quadratic Place) (ts : List Triangle) (x : Quadratic) → add_triangle d sum t ≡ r
+    → behind t r (λ next. sum_after d next ts) ≡ Ok x → ((next : Quadratic) → sum_after d next ts ≡ Ok x → x ≡ twice_areas_from d next ts)
+    → x ≡ twice_areas_from d (add sum (twice_area_of d t)) ts
+value_behind d sum t (Ok next) ts x e f h = h next f ∙ ap (λ n. twice_areas_from d n ts) (triangle_value d sum next t e)
+value_behind d sum t (Err stop) ts x e f h = cc
+
+sum_value : (d : ℕ) (sum : Quadratic) (ts : List Triangle) (x : Quadratic) → sum_after d sum ts ≡ Ok x → x ≡ twice_areas_from d sum ts
+sum_value d sum [] x e = cc
+sum_value d sum (t ∷ ts) x e = value_behind d sum t (add_triangle d sum t) ts x refl e (λ next. sum_value d next ts x)
+
+-- where the sum is computed, it is twice the area
+pub area_of_sum : (s : GluedPolygons) (r : Result Quadratic Site) → r ≡ sum_after s.d ring.zero (triangles s) → IfOk r (λ x. x ≡ twice_area s)
+area_of_sum s (Ok x) e = sum_value s.d ring.zero (triangles s) x (sym e)
+area_of_sum s (Err site) e = tt
