@@ -4,7 +4,7 @@ use Rattle.std.specs.List.{flat_map}
 use Rattle.std.specs.Str.Parse.{IsNumeral, digits_value}
 use Rattle.fs_plane.specs.declared.corners.Corner.{Corner}
 use Rattle.fs_job.specs.declared.job.Command.{Command}
-use Rattle.fs_job.specs.declared.job.Command.TheVariants.{Check}
+use Rattle.fs_job.specs.declared.job.Command.TheVariants.{Check, Stratum}
 use Rattle.fs_job.specs.Pieces.{pieces}
 
 -- one to `most` decimal digits, and the number that they stand for
@@ -47,11 +47,12 @@ pub data Statement : Type 0 where
 
 -- the command words that are built
 abbrev pub Built : List (List ℕ)
-Built = codes "check" ∷ []
+Built = codes "check" ∷ codes "stratum" ∷ []
 
 -- the words of each command
 abbrev pub SpellsCommand : List (List ℕ) → Command → Type 0
 SpellsCommand words Check = words ≡ codes "check" ∷ []
+SpellsCommand words Stratum = words ≡ codes "stratum" ∷ []
 
 -- the words have the form of this statement
 abbrev pub Shows : List (List ℕ) → Statement → Type 0

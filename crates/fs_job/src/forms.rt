@@ -1,6 +1,7 @@
-ghost use Rattle.std.specs.Prelude.{◌≡◌, ◌≤◌, ◌↔◌, ℕ, List, ◌∷◌, codes, IsTrue, MatchOption, length};
+ghost use Rattle.std.specs.Prelude.{◌≡◌, ◌≤◌, ◌↔◌, ℕ, List, [], ◌∷◌, codes, Contains, IsTrue, MatchOption, length};
+ghost use Rattle.fs_job.specs.declared.job.Command.{Command};
 ghost use Rattle.fs_job.specs.Pieces.{words_of};
-ghost use Rattle.fs_job.specs.Statement.{Pair, Statement, SpellsNumeral, SpellsCorner, ArePairs, Shows};
+ghost use Rattle.fs_job.specs.Statement.{Pair, Statement, Built, SpellsCommand, SpellsNumeral, SpellsCorner, ArePairs, Shows};
 ghost use Rattle.fs_job.specs.Grammar.{header};
 ghost use Rattle.fs_job.specs.Line.{Finds, ShowsField, ShowsGlue, pairs_of, statement_of, IsCounted};
 
@@ -105,6 +106,21 @@ pub fn is_header(line: &[u8]) -> bool
     }
 }
 
+// The command that a word alone asks for.
+fn bare_command(word: &[u8]) -> Option<Command>
+    ensures { MatchOption result
+        ((command : Command) → ¬ SpellsCommand (word.now ∷ []) command)
+        (λ command. Contains Built word.now × SpellsCommand (word.now ∷ []) command) }
+{
+    if word == b"check".as_slice() {
+        Some(Command::Check)
+    } else if word == b"stratum".as_slice() {
+        Some(Command::Stratum)
+    } else {
+        None
+    }
+}
+
 // A line that isn't blank by its form, where it has one.
 pub fn read_line(line: &[u8]) -> Option<Line<'_>>
     ensures { MatchOption result
@@ -125,8 +141,8 @@ pub fn read_line(line: &[u8]) -> Option<Line<'_>>
     if next_word(rest).is_some() {
         return None;
     }
-    if word == b"check".as_slice() {
-        return Some(Line::Command(Command::Check));
+    if let Some(command) = bare_command(word) {
+        return Some(Line::Command(command));
     }
     if word == b"end".as_slice() {
         return Some(Line::End);

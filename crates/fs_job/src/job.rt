@@ -10,6 +10,8 @@ use std::alloc::AllocError;
 pub enum Command {
     /// Count the polygons and the sides.
     Check,
+    /// Find the vertices with their cone angles, the stratum, the genus and the area.
+    Stratum,
 }
 
 /// How a job describes its surface.

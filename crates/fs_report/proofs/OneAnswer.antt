@@ -1,12 +1,70 @@
 -- A command has one answer on a surface.
-use Rattle.std.proofs.Common.{◌≡◌, ℕ, Bool, List, refl, sym, ◌∙◌}
+use Rattle.std.proofs.Common.{◌≡◌, ℕ, ◌-◌, Bool, Result, Ok, Err, List, length, map, refl, sym, ap, ◌∙◌, subst}
+use Rattle.std.specs.Prelude.{codes}
+use Rattle.fs_fraction.specs.Fraction.{Fraction}
+use Rattle.fs_plane.specs.declared.sites.Site.{Site}
 use Rattle.fs_gluing.specs.Surface.{GluedPolygons, IsSurface}
+use Rattle.fs_stratum.specs.declared.cones.Cone.{Cone}
+use Rattle.fs_stratum.specs.Cones.{IsGenus}
+use Rattle.fs_stratum.proofs.OneList.{one_list, one_genus}
+use Rattle.fs_stratum.proofs.SomeList.{some_list}
+use Rattle.fs_stratum.proofs.SomeGenus.{genus_of_cones}
 use Rattle.fs_job.specs.declared.job.Command.{Command}
-use Rattle.fs_job.specs.declared.job.Command.TheVariants.{Check}
-use Rattle.fs_report.specs.Text.{Answers}
+use Rattle.fs_job.specs.declared.job.Command.TheVariants.{Check, Stratum}
+use Rattle.fs_report.specs.Area.{HasArea}
+use Rattle.fs_report.specs.Orders.{AreOrders}
+use Rattle.fs_report.specs.Text.{Answers, AnswersStratum, whole, stopped, stratum_text, overflow_text}
+use Rattle.fs_report.proofs.TrueArea.{one_area, some_area}
+use Rattle.fs_report.proofs.Falling.{one_descending, some_descending}
+
+-- ---- the stratum
+
+ok_not_err : (x : Fraction) (site : Site) → ◌≡◌ {A = Result Fraction Site} (Ok x) (Err site) → ⊥
+ok_not_err x site e = cc
+
+same_ok : (x y : Fraction) → ◌≡◌ {A = Result Fraction Site} (Ok x) (Ok y) → x ≡ y
+same_ok x y e = cc
+
+same_site : (x y : Site) → ◌≡◌ {A = Result Fraction Site} (Err x) (Err y) → x ≡ y
+same_site x y e = cc
+
+-- the text of equal parts
+same_text : (cones cones' : List Cone) (orders orders' : List ℕ) (g g' : ℕ) (area area' : Fraction) → cones ≡ cones' → orders ≡ orders' → g ≡ g' → area ≡ area'
+    → stratum_text orders g cones area ≡ stratum_text orders' g' cones' area'
+same_text cones cones' orders orders' g g' area area' c o e a = λ i. stratum_text (o i) (e i) (c i) (a i)
+
+one_stratum : (s : GluedPolygons) (m n : List ℕ) (p q : Bool) → IsSurface s → AnswersStratum s m p → AnswersStratum s n q → (m ≡ n) × (p ≡ q)
+one_stratum s m n p q surface (whole cones orders g area are all genus is text kind) (whole cones' orders' g' area' are' all' genus' is' text' kind') =
+    let same = one_list s surface cones cones' are are' in
+    let as_many = ap (λ (cs : List Cone). length cs) same in
+    let same_orders = one_descending (map (λ cone. cone.k - 1) cones) orders orders' all.descending all'.descending all.all
+    (subst (λ (cs : List Cone). AreOrders cs orders') (sym same) all').all in
+    let same_genus = one_genus s (length cones) g g' genus (subst (λ (v : ℕ). IsGenus s v g') (sym as_many) genus') in
+    let same_area = same_ok area area' (one_area s (Ok area) (Ok area') is is') in
+    (text ∙ (same_text cones cones' orders orders' g g' area area' same same_orders same_genus same_area ∙ sym text'), kind ∙ sym kind')
+one_stratum s m n p q surface (whole cones orders g area are all genus is text kind) (stopped site is' text' kind') =
+    absurd (ok_not_err area site (one_area s (Ok area) (Err site) is is'))
+one_stratum s m n p q surface (stopped site is text kind) (whole cones orders g area are all genus is' text' kind') =
+    absurd (ok_not_err area site (one_area s (Ok area) (Err site) is' is))
+one_stratum s m n p q surface (stopped site is text kind) (stopped site' is' text' kind') =
+    (text ∙ (ap (λ (x : Site). overflow_text (codes "stratum") x) (same_site site site' (one_area s (Err site) (Err site') is is')) ∙ sym text'), kind ∙ sym kind')
+
+some_stratum : (s : GluedPolygons) → IsSurface s → ((text : List ℕ) (partial : Bool) → ¬ AnswersStratum s text partial) → ⊥
+some_stratum s surface none = some_area s by_area
+  where
+    by_area : (result : Result Fraction Site) → ¬ HasArea s result
+    by_area (Err site) is = none _ _ (stopped site is refl refl)
+    by_area (Ok area) is = some_list s surface (λ cones are.
+        let g = genus_of_cones s surface cones are in
+        let orders = some_descending (map (λ cone. cone.k - 1) cones) in
+        none _ _ (whole cones orders.0 g.0 area are (record { descending = orders.1; all = orders.2 }) g.1.genus is refl refl))
+
+-- ---- each command
 
 pub one_text : (s : GluedPolygons) (command : Command) (m n : List ℕ) (p q : Bool) → IsSurface s → Answers s command m p → Answers s command n q → (m ≡ n) × (p ≡ q)
 one_text s Check m n p q surface a b = (a.0 ∙ sym b.0, a.1 ∙ sym b.1)
+one_text s Stratum m n p q surface a b = one_stratum s m n p q surface a b
 
 pub some_text : (s : GluedPolygons) (command : Command) → IsSurface s → ((text : List ℕ) (partial : Bool) → ¬ Answers s command text partial) → ⊥
 some_text s Check surface none = none _ _ (refl, refl)
+some_text s Stratum surface none = some_stratum s surface none

@@ -1,14 +1,20 @@
 -- The lines that are answered. Each ends with one line feed.
-use Rattle.std.specs.Prelude.{◌≡◌, ℕ, Bool, false, List, [], ◌∷◌, ◌++◌, length, sum_by, codes}
+use Rattle.std.specs.Prelude.{◌≡◌, ℕ, Bool, true, false, Ok, Err, List, [], ◌∷◌, ◌++◌, length, sum_by, codes}
 use Rattle.std.specs.Fmt.{decimal}
+use Rattle.fs_fraction.specs.Fraction.{Fraction}
+use Rattle.fs_fraction.specs.Number.{spelling}
 use Rattle.fs_plane.specs.declared.corners.Corner.{Corner}
 use Rattle.fs_plane.specs.declared.sites.Site.{Site}
 use Rattle.fs_gluing.specs.declared.faults.Fault.{Fault}
 use Rattle.fs_gluing.specs.declared.faults.Fault.TheVariants.{NotAscii, BadHeader, BadLine, BadNumber, BadField, TooMany, NoEnd, Wide, FewSides, NotClosed, NotConvex, TurnsTwice, NoSuchSide, GluedTwice, NotOpposite, Unglued, Apart, TooLong}
 use Rattle.fs_gluing.specs.Surface.{GluedPolygons}
+use Rattle.fs_stratum.specs.declared.cones.Cone.{Cone}
+use Rattle.fs_stratum.specs.Cones.{AreCones, IsGenus}
 use Rattle.fs_job.specs.declared.job.Command.{Command}
-use Rattle.fs_job.specs.declared.job.Command.TheVariants.{Check}
+use Rattle.fs_job.specs.declared.job.Command.TheVariants.{Check, Stratum}
 use Rattle.fs_job.specs.SiteText.{site_text}
+use Rattle.fs_report.specs.Area.{HasArea}
+use Rattle.fs_report.specs.Orders.{AreOrders}
 
 -- a line feed
 abbrev pub end : List ℕ
@@ -39,14 +45,51 @@ fault_text (Unglued side) = codes "refused 17 Unglued " ++ corner_text side ++ e
 fault_text (Apart polygon) = codes "refused 18 Apart " ++ decimal polygon ++ end
 fault_text TooLong = codes "refused 20 TooLong" ++ end
 
+-- building, or a command, left the width there
+abbrev pub overflow_text : List ℕ → Site → List ℕ
+overflow_text what site = what ++ codes " overflow " ++ site_text site ++ end
+
 -- where building left the width
 abbrev pub build_text : Site → List ℕ
-build_text site = codes "build overflow " ++ site_text site ++ end
+build_text site = overflow_text (codes "build") site
 
 -- how many polygons and sides a surface has
 abbrev pub check_text : ℕ → ℕ → List ℕ
 check_text polygons sides = codes "check polygons " ++ decimal polygons ++ codes " sides " ++ decimal sides ++ end
 
+-- numbers with commas between them
+abbrev pub commas : List ℕ → List ℕ
+commas [] = []
+commas (n ∷ []) = decimal n
+commas (n ∷ (m ∷ ns)) = decimal n ++ codes "," ++ commas (m ∷ ns)
+
+-- the line of a vertex: its least corner and its cone number
+abbrev pub vertex_line : Cone → List ℕ
+vertex_line cone = codes "vertex " ++ corner_text cone.first ++ codes " turns " ++ decimal cone.k ++ end
+
+abbrev pub vertex_lines : List Cone → List ℕ
+vertex_lines [] = []
+vertex_lines (cone ∷ cones) = vertex_line cone ++ vertex_lines cones
+
+-- the stratum, the genus, how many vertices there are, and the area
+abbrev pub stratum_line : List ℕ → ℕ → ℕ → Fraction → List ℕ
+stratum_line orders genus vertices area =
+    codes "stratum H(" ++ commas orders ++ codes ") genus " ++ decimal genus ++ codes " vertices " ++ decimal vertices ++ codes " area " ++ spelling area ++ end
+
+-- that, and a line for each vertex
+abbrev pub stratum_text : List ℕ → ℕ → List Cone → Fraction → List ℕ
+stratum_text orders genus cones area = stratum_line orders genus (length cones) area ++ vertex_lines cones
+
+-- what `stratum` answers of a surface
+pub data AnswersStratum (s : GluedPolygons) (text : List ℕ) (partial : Bool) : Type 0 where
+  -- its vertices with their cone numbers, their orders, its genus and its area
+  whole : (cones : List Cone) → (orders : List ℕ) → (genus : ℕ) → (area : Fraction)
+      → AreCones s cones → AreOrders cones orders → IsGenus s (length cones) genus → HasArea s (Ok area)
+      → text ≡ stratum_text orders genus cones area → partial ≡ false → AnswersStratum s text partial
+  -- the area leaves the width there
+  stopped : (site : Site) → HasArea s (Err site) → text ≡ overflow_text (codes "stratum") site → partial ≡ true → AnswersStratum s text partial
+
 -- what a command answers of a surface: this text, and whether it stands in the place of the whole answer
 abbrev pub Answers : GluedPolygons → Command → List ℕ → Bool → Type 0
 Answers s Check text partial = (text ≡ check_text (length s.polygons) (sum_by length s.polygons)) × (partial ≡ false)
+Answers s Stratum text partial = AnswersStratum s text partial

@@ -1,6 +1,7 @@
 ghost use Rattle.std.specs.Prelude.{◌≡◌, ◌≤◌, length, sum_by, IfOk, string_bytes};
 ghost use Rattle.fs_report.specs.Text.{check_text, Answers};
 
+use crate::stratum::answer_stratum;
 use fs_fraction::NoMemory;
 use fs_gluing::Surface;
 use fs_job::Command;
@@ -60,5 +61,6 @@ pub fn find_answer(
             text: check_line(alloc, surface)?,
             partial: false,
         }),
+        Command::Stratum => answer_stratum(alloc, surface),
     }
 }

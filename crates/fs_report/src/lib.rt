@@ -2,7 +2,9 @@
 #![tactic(auto)]
 
 mod answers;
+mod areas;
 mod lines;
+mod stratum;
 
 pub use answers::{Answer, find_answer};
 pub use lines::{build_line, fault_line};

@@ -1,5 +1,5 @@
 ghost use Rattle.std.specs.Prelude.{◌≡◌, IfOk, string_bytes};
-ghost use Rattle.fs_report.specs.Text.{fault_text, build_text};
+ghost use Rattle.fs_report.specs.Text.{fault_text, build_text, overflow_text};
 
 use fs_fraction::NoMemory;
 use fs_gluing::Fault;
@@ -51,7 +51,14 @@ fn refusal(alloc: Global, fault: Fault) -> Result<String, AllocError>
 pub fn build_line(alloc: Global, site: &Site) -> Result<String, NoMemory>
     ensures { IfOk result (λ line. string_bytes line ≡ build_text site.now) }
 {
+    overflow_line(alloc, "build", site)
+}
+
+// The line that names the site where something left the width: a command, or building.
+pub(crate) fn overflow_line(alloc: Global, what: &str, site: &Site) -> Result<String, NoMemory>
+    ensures { IfOk result (λ line. string_bytes line ≡ overflow_text what.now site.now) }
+{
     let site = print_site(alloc, site)?;
-    let line = format!(in alloc; "build overflow {site}\n")?;
+    let line = format!(in alloc; "{what} overflow {site}\n")?;
     Ok(line)
 }

@@ -75,7 +75,7 @@ pub fn expect(
 pub fn status_of(answer: &str) -> Status {
     if answer.starts_with("refused ") {
         Status::Refused
-    } else if answer.starts_with("build overflow ") {
+    } else if answer.starts_with("build overflow ") || answer.starts_with("stratum overflow ") {
         Status::Partial
     } else {
         Status::Done

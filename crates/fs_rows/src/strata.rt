@@ -1,101 +1,151 @@
-ghost use Rattle.std.specs.Prelude.{◌≤◌, length};
-
-use fs_gluing::{Surface, build};
-use fs_job::{Form, Job, read_job};
-use fs_stratum::{classes, genus};
-use std::alloc::{AllocError, Global};
+use crate::running::{run, status_of};
+use std::alloc::Global;
 use std::process::Abort;
 use std::test::Fail;
 
-// A job with these polygon and glue lines.
-fn job_of(alloc: Global, d: u16, lines: &str) -> Result<String, AllocError> {
-    format!(in alloc; "flatsurf 1\nfield {d}\n{lines}\ncheck\nend\n")
-}
+// The line of the unit square.
+const SQUARE: &str = "polygon 1,0 0,1 -1,0 0,-1\n";
 
-// The surface of a job.
-fn surface(alloc: Global, text: &[u8]) -> Result<Surface, Fail>
-    requires { length text.now ≤ 1048576 }
-{
-    let job = read_job(alloc, text).ok().ok_or("no job")?;
-    let Job { field, form, .. } = job;
-    let Form::Polygons(shape) = form;
-    let built = build(alloc, field, &shape).ok().ok_or("no surface")?;
-    Ok(built)
-}
-
-// That the vertices of the surface of these lines have these least corners and cone numbers, and
-// that this is its genus.
-fn expect(
-    rt: &impl Abort,
-    alloc: Global,
-    d: u16,
-    lines: &str,
-    cones: &[(u16, u16, u32)],
-    handles: u32,
-) -> Result<(), Fail> {
-    let text = job_of(alloc, d, lines)?;
-    assert!(rt; text.len() <= 1_048_576);
-    let surface = surface(alloc, text.as_bytes())?;
-    let found = classes(alloc, &surface).ok().ok_or("no memory")?;
-    assert_eq!(rt; found.len(), cones.len(), "{lines}");
-    for (cone, (polygon, side, k)) in found.as_slice().iter().zip(cones) {
-        assert_eq!(rt; cone.first.polygon, *polygon, "{lines}");
-        assert_eq!(rt; cone.first.side, *side, "{lines}");
-        assert_eq!(rt; cone.k, *k, "{lines}");
-    }
-    assert_eq!(rt; genus(found.as_slice()), handles, "{lines}");
+// That the stratum of these polygon and glue lines is answered with this text, and with the status
+// that belongs to it.
+fn expect(rt: &impl Abort, alloc: Global, d: u16, lines: &str, answer: &str) -> Result<(), Fail> {
+    let job = format!(in alloc; "flatsurf 1\nfield {d}\n{lines}stratum\nend\n")?;
+    let (status, out) = run(alloc, job.as_bytes().to_vec(alloc)?)?;
+    assert_eq!(rt; out.held(), answer.as_bytes(), "{lines}");
+    assert_eq!(rt; status, status_of(answer), "{lines}");
     Ok(())
 }
 
-// The square, two of them in a row, the hexagon, the octagon, the decagon, the pentagon and its
-// opposite, and the L of three squares.
+// The square, two of them in a row, the hexagon, the octagon, the decagon, and the pentagon with
+// its opposite.
 #[test]
-fn cone_numbers(rt: HostRuntime) -> Result<(), Fail> {
-    for (d, lines, cones, handles) in [
+fn regular_polygons(rt: HostRuntime) -> Result<(), Fail> {
+    for (d, lines, answer) in [
         (
             2,
-            "polygon 1,0 0,1 -1,0 0,-1\nglue 0.0 0.2\nglue 0.1 0.3",
-            [(0, 0, 1)].as_slice(),
-            1,
+            "polygon 1,0 0,1 -1,0 0,-1\nglue 0.0 0.2\nglue 0.1 0.3\n",
+            "stratum H(0) genus 1 vertices 1 area 1\nvertex 0.0 turns 1\n",
         ),
         (
             2,
-            "polygon 1,0 0,1 -1,0 0,-1\npolygon 1,0 0,1 -1,0 0,-1\nglue 0.1 1.3\nglue 1.1 0.3\nglue 0.0 0.2\nglue 1.0 1.2",
-            [(0, 0, 1), (0, 1, 1)].as_slice(),
-            1,
+            "polygon 1,0 0,1 -1,0 0,-1\npolygon 1,0 0,1 -1,0 0,-1\nglue 0.1 1.3\nglue 1.1 0.3\nglue 0.0 0.2\nglue 1.0 1.2\n",
+            "stratum H(0,0) genus 1 vertices 2 area 2\nvertex 0.0 turns 1\nvertex 0.1 turns 1\n",
         ),
         (
             3,
-            "polygon 1,0 1/2,1/2r -1/2,1/2r -1,0 -1/2,-1/2r 1/2,-1/2r\nglue 0.0 0.3\nglue 0.1 0.4\nglue 0.2 0.5",
-            [(0, 0, 1), (0, 1, 1)].as_slice(),
-            1,
+            "polygon 1,0 1/2,1/2r -1/2,1/2r -1,0 -1/2,-1/2r 1/2,-1/2r\nglue 0.0 0.3\nglue 0.1 0.4\nglue 0.2 0.5\n",
+            "stratum H(0,0) genus 1 vertices 2 area 3/2r\nvertex 0.0 turns 1\nvertex 0.1 turns 1\n",
         ),
         (
             2,
-            "polygon 1,0 1/2r,1/2r 0,1 -1/2r,1/2r -1,0 -1/2r,-1/2r 0,-1 1/2r,-1/2r\nglue 0.0 0.4\nglue 0.1 0.5\nglue 0.2 0.6\nglue 0.3 0.7",
-            [(0, 0, 3)].as_slice(),
-            2,
-        ),
-        (
-            5,
-            "polygon -3/4+1/4r,1 -1/2,-1/2+1/2r 1/2-1/2r,0 -1/2,1/2-1/2r -3/4+1/4r,-1 3/4-1/4r,-1 1/2,1/2-1/2r -1/2+1/2r,0 1/2,-1/2+1/2r 3/4-1/4r,1\nglue 0.0 0.5\nglue 0.1 0.6\nglue 0.2 0.7\nglue 0.3 0.8\nglue 0.4 0.9",
-            [(0, 0, 2), (0, 1, 2)].as_slice(),
-            2,
+            "polygon 1,0 1/2r,1/2r 0,1 -1/2r,1/2r -1,0 -1/2r,-1/2r 0,-1 1/2r,-1/2r\nglue 0.0 0.4\nglue 0.1 0.5\nglue 0.2 0.6\nglue 0.3 0.7\n",
+            "stratum H(2) genus 2 vertices 1 area 2+2r\nvertex 0.0 turns 3\n",
         ),
         (
             5,
-            "polygon -5/4+1/4r,1 -1/2r,-3/2+1/2r 0,1-1r 1/2r,-3/2+1/2r 5/4-1/4r,1\npolygon 5/4-1/4r,-1 1/2r,3/2-1/2r 0,-1+1r -1/2r,3/2-1/2r -5/4+1/4r,-1\nglue 0.0 1.0\nglue 0.1 1.1\nglue 0.2 1.2\nglue 0.3 1.3\nglue 0.4 1.4",
-            [(0, 0, 3)].as_slice(),
-            2,
+            "polygon -3/4+1/4r,1 -1/2,-1/2+1/2r 1/2-1/2r,0 -1/2,1/2-1/2r -3/4+1/4r,-1 3/4-1/4r,-1 1/2,1/2-1/2r -1/2+1/2r,0 1/2,-1/2+1/2r 3/4-1/4r,1\nglue 0.0 0.5\nglue 0.1 0.6\nglue 0.2 0.7\nglue 0.3 0.8\nglue 0.4 0.9\n",
+            "stratum H(1,1) genus 2 vertices 2 area 5\nvertex 0.0 turns 2\nvertex 0.1 turns 2\n",
         ),
         (
-            2,
-            "polygon 1,0 0,1 -1,0 0,-1\npolygon 1,0 0,1 -1,0 0,-1\npolygon 1,0 0,1 -1,0 0,-1\nglue 0.1 1.3\nglue 1.1 0.3\nglue 0.2 2.0\nglue 2.2 0.0\nglue 1.2 1.0\nglue 2.1 2.3",
-            [(0, 0, 3)].as_slice(),
-            2,
+            5,
+            "polygon -5/4+1/4r,1 -1/2r,-3/2+1/2r 0,1-1r 1/2r,-3/2+1/2r 5/4-1/4r,1\npolygon 5/4-1/4r,-1 1/2r,3/2-1/2r 0,-1+1r -1/2r,3/2-1/2r -5/4+1/4r,-1\nglue 0.0 1.0\nglue 0.1 1.1\nglue 0.2 1.2\nglue 0.3 1.3\nglue 0.4 1.4\n",
+            "stratum H(2) genus 2 vertices 1 area 5\nvertex 0.0 turns 3\n",
         ),
     ] {
-        expect(&rt, rt.alloc(), d, lines, cones, handles)?;
+        expect(&rt, rt.alloc(), d, lines, answer)?;
     }
     Ok(())
+}
+
+// Squares by number and glue lines: the L of three; six in a row, of which the fourth and the sixth
+// exchange their upper sides, so that two vertices are marked points; and eight of genus 3.
+#[test]
+fn squares(rt: HostRuntime) -> Result<(), Fail> {
+    for (count, glues, answer) in [
+        (
+            3,
+            "glue 0.1 1.3\nglue 1.1 0.3\nglue 0.2 2.0\nglue 2.2 0.0\nglue 1.2 1.0\nglue 2.1 2.3\n",
+            "stratum H(2) genus 2 vertices 1 area 3\nvertex 0.0 turns 3\n",
+        ),
+        (
+            6,
+            "glue 0.1 1.3\nglue 1.1 2.3\nglue 2.1 3.3\nglue 3.1 4.3\nglue 4.1 5.3\nglue 5.1 0.3\nglue 0.2 0.0\nglue 1.2 1.0\nglue 2.2 2.0\nglue 3.2 5.0\nglue 4.2 4.0\nglue 5.2 3.0\n",
+            "stratum H(1,1,0,0) genus 2 vertices 4 area 6\nvertex 0.0 turns 2\nvertex 0.1 turns 1\nvertex 1.1 turns 1\nvertex 2.1 turns 2\n",
+        ),
+        (
+            8,
+            "glue 0.1 1.3\nglue 1.1 2.3\nglue 2.1 3.3\nglue 3.1 0.3\nglue 4.1 5.3\nglue 5.1 6.3\nglue 6.1 7.3\nglue 7.1 4.3\nglue 0.2 4.0\nglue 1.2 7.0\nglue 2.2 6.0\nglue 3.2 5.0\nglue 4.2 2.0\nglue 5.2 1.0\nglue 6.2 0.0\nglue 7.2 3.0\n",
+            "stratum H(1,1,1,1) genus 3 vertices 4 area 8\nvertex 0.0 turns 2\nvertex 0.1 turns 2\nvertex 0.2 turns 2\nvertex 0.3 turns 2\n",
+        ),
+    ] {
+        let mut lines = String::new(rt.alloc());
+        for _ in 0..count {
+            lines.push_str(SQUARE)?;
+        }
+        lines.push_str(glues)?;
+        expect(&rt, rt.alloc(), 2, &lines, answer)?;
+    }
+    Ok(())
+}
+
+// Two polygons of 512 sides: 256 vectors of width 1 that turn left, and their opposites. Side j of
+// the one is glued to the opposite side of the other, so a turn goes two corners on in each. Twice
+// the area of both is 2·256·(256² - 1)/3.
+#[test]
+fn two_large_polygons(rt: HostRuntime) -> Result<(), Fail> {
+    let mut polygon = format!(in rt.alloc(); "polygon")?;
+    for (x, sign) in [("1", ""), ("-1", "-")] {
+        for j in 0..256 {
+            let rise = if sign.is_empty() { j - 128 } else { 128 - j };
+            write!(polygon, " {x},{rise}")?;
+        }
+    }
+    let mut lines = format!(in rt.alloc(); "{polygon}\n{polygon}\n")?;
+    for j in 0..512 {
+        let opposite = if j < 256 { j + 256 } else { j - 256 };
+        writeln!(lines, "glue 0.{j} 1.{opposite}")?;
+    }
+    expect(
+        &rt,
+        rt.alloc(),
+        2,
+        &lines,
+        "stratum H(254,254) genus 255 vertices 2 area 5592320\nvertex 0.0 turns 255\nvertex 0.1 turns 255\n",
+    )
+}
+
+// Areas that leave the width: the second triangle of a side of 13·(10^18 - 1); the third triangle of
+// a side of 9·(10^18 - 1), in the second polygon; and the sum of the squares of two numbers without
+// a common divisor, over the square of their product.
+#[test]
+fn wide_areas(rt: HostRuntime) -> Result<(), Fail> {
+    for (lines, answer) in [
+        (
+            "polygon 999999999999999999,0 1/13,999999999999999999 -999999999999999999,0 -1/13,-999999999999999999\nglue 0.0 0.2\nglue 0.1 0.3\n",
+            "stratum overflow area 0 2 4\n",
+        ),
+        (
+            "polygon 999999999999999999,0 1/9,999999999999999999 -999999999999999999,0 -1/9,-999999999999999999\npolygon 999999999999999999,0 1/9,999999999999999999 -999999999999999999,0 -1/9,-999999999999999999\nglue 0.0 1.2\nglue 1.0 0.2\nglue 0.1 1.3\nglue 1.1 0.3\n",
+            "stratum overflow area 1 1 4\n",
+        ),
+        (
+            "polygon 1/5000000000,1/4999999999 -1/4999999999,1/5000000000 -1/5000000000,-1/4999999999 1/4999999999,-1/5000000000\nglue 0.0 0.2\nglue 0.1 0.3\n",
+            "stratum overflow areascale 2\n",
+        ),
+    ] {
+        expect(&rt, rt.alloc(), 2, lines, answer)?;
+    }
+    Ok(())
+}
+
+// What comes behind an area that leaves the width is answered all the same.
+#[test]
+fn commands_behind_a_wide_area(rt: HostRuntime) -> Result<(), Fail> {
+    expect(
+        &rt,
+        rt.alloc(),
+        2,
+        "polygon 1/5000000000,1/4999999999 -1/4999999999,1/5000000000 -1/5000000000,-1/4999999999 1/4999999999,-1/5000000000\nglue 0.0 0.2\nglue 0.1 0.3\nstratum\ncheck\n",
+        "stratum overflow areascale 2\ncheck polygons 1 sides 4\nstratum overflow areascale 2\n",
+    )
 }

@@ -27,6 +27,7 @@ pub struct Cone {
 pub fn classes(alloc: Global, surface: &Surface) -> Result<Sequence<Cone>, NoMemory>
     ensures cones { IfOk result (λ cones. AreCones surface.now cones) }
     ensures genus { IfOk result (λ cones. (g : ℕ) × HasGenus surface.now cones g) }
+    ensures surface { OnOk result (IsSurface surface.now) }
 {
     let mut marks = Marks::new(alloc, surface)?;
     let mut cones = Sequence::new(alloc);

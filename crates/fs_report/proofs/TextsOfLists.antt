@@ -1,0 +1,76 @@
+-- The lines of the stratum, number by number and vertex by vertex.
+use Rattle.std.proofs.Common.{◌≡◌, ◌≢◌, ℕ, zero, suc, ◌+◌, ◌<◌, Bool, true, false, cond, List, [], ◌∷◌, ◌++◌, length, take, get_or, eqb, inl, inr, refl, sym, ap, ◌∙◌, arith, append_assoc, append-nil}
+use Rattle.std.specs.Prelude.{codes}
+use Rattle.std.specs.Fmt.{decimal}
+use Rattle.std.proofs.lemmas.Bool.Decides.{eqb_tells}
+use Rattle.std.proofs.lemmas.List.{take_more}
+use Rattle.fs_stratum.specs.declared.cones.Cone.{Cone}
+use Rattle.fs_report.specs.Text.{commas, vertex_line, vertex_lines}
+
+-- a number behind others
+commas_behind : (m : ℕ) (ms : List ℕ) (n : ℕ) → commas ((m ∷ ms) ++ n ∷ []) ≡ commas (m ∷ ms) ++ (codes "," ++ decimal n)
+commas_behind m [] n = simp append_assoc
+commas_behind m (k ∷ ms) n =
+    ap (λ (text : List ℕ). (decimal m ++ codes ",") ++ text) (commas_behind k ms n)
+    ∙ simp append_assoc
+
+commas_more : (ms : List ℕ) (n : ℕ) (first : Bool) → (first ≡ true → ms ≡ []) → (first ≡ false → 0 < length ms)
+    → commas (ms ++ n ∷ []) ≡ commas ms ++ cond first (decimal n) (codes "," ++ decimal n)
+commas_more [] n true none some = refl
+commas_more [] n false none some = absurd (let h = some refl in omega arith)
+commas_more (m ∷ ms) n true none some = absurd (let h = none refl in cc)
+commas_more (m ∷ ms) n false none some = commas_behind m ms n
+
+some_taken : (i : ℕ) (numbers : List ℕ) → i ≢ 0 → 0 < length numbers → 0 < length (take i numbers)
+some_taken zero numbers i_not h = absurd (i_not refl)
+some_taken (suc i) [] i_not h = absurd (omega arith)
+some_taken (suc i) (n ∷ ns) i_not h = omega arith
+
+-- one number more of a list
+numbers_more : (numbers : List ℕ) (i d : ℕ) → i < length numbers
+    → commas (take (i + 1) numbers) ≡ commas (take i numbers) ++ cond (eqb i 0) (decimal (get_or numbers i d)) (codes "," ++ decimal (get_or numbers i d))
+numbers_more numbers i d h = ap commas (take_more numbers i d h) ∙ commas_more (take i numbers) (get_or numbers i d) (eqb i 0) none some
+  where
+    clash : {b : Bool} → b ≡ true → b ≡ false → ⊥
+    clash e f = cc
+
+    none : eqb i 0 ≡ true → take i numbers ≡ []
+    none e = elim (eqb_tells i 0) [
+      | inl same ↦ ap (λ (j : ℕ). take j numbers) same.1
+      | inr other ↦ absurd (clash e other.0)
+    ]
+
+    some : eqb i 0 ≡ false → 0 < length (take i numbers)
+    some e = elim (eqb_tells i 0) [
+      | inl same ↦ absurd (clash same.0 e)
+      | inr other ↦ some_taken i numbers other.1 (omega arith)
+    ]
+
+pub numbers_written : (numbers : List ℕ) (i d : ℕ) (text text' : List ℕ) → i < length numbers → text ≡ commas (take i numbers)
+    → text' ≡ text ++ cond (eqb i 0) (decimal (get_or numbers i d)) (codes "," ++ decimal (get_or numbers i d)) → text' ≡ commas (take (i + 1) numbers)
+numbers_written numbers i d text text' h before more =
+    more
+    ∙ (ap (λ (bytes : List ℕ). bytes ++ cond (eqb i 0) (decimal (get_or numbers i d)) (codes "," ++ decimal (get_or numbers i d))) before
+    ∙ sym (numbers_more numbers i d h))
+
+-- ---- vertices
+
+lines-append : (cones others : List Cone) → vertex_lines (cones ++ others) ≡ vertex_lines cones ++ vertex_lines others
+lines-append [] others = refl
+lines-append (cone ∷ cones) others =
+    ap (λ (text : List ℕ). vertex_line cone ++ text) (lines-append cones others) ∙ sym (append_assoc (vertex_line cone) (vertex_lines cones) (vertex_lines others))
+
+-- one vertex more of a list
+vertices_more : (cones : List Cone) (i : ℕ) (d : Cone) → i < length cones → vertex_lines (take (i + 1) cones) ≡ vertex_lines (take i cones) ++ vertex_line (get_or cones i d)
+vertices_more cones i d h =
+    ap vertex_lines (take_more cones i d h)
+    ∙ (lines-append (take i cones) (get_or cones i d ∷ [])
+    ∙ ap (λ (text : List ℕ). vertex_lines (take i cones) ++ text) (append-nil (vertex_line (get_or cones i d))))
+
+pub vertices_written : (cones : List Cone) (i : ℕ) (d : Cone) (start text text' : List ℕ) → i < length cones → text ≡ start ++ vertex_lines (take i cones) → text' ≡ text ++ vertex_line (get_or cones i d)
+    → text' ≡ start ++ vertex_lines (take (i + 1) cones)
+vertices_written cones i d start text text' h before more =
+    more
+    ∙ (ap (λ (bytes : List ℕ). bytes ++ vertex_line (get_or cones i d)) before
+    ∙ (append_assoc start (vertex_lines (take i cones)) (vertex_line (get_or cones i d))
+    ∙ ap (λ (bytes : List ℕ). start ++ bytes) (sym (vertices_more cones i d h))))
