@@ -14,7 +14,7 @@ use Rattle.fs_report.specs.Text.{fault_text}
 use Rattle.fs_cli.specs.declared.outcome.Status.TheVariants as status
 use Rattle.fs_cli.specs.declared.outcome.Status.{Status}
 use Rattle.fs_cli.specs.Answer.{IsAnswered, Too_long, At_fault, Not_built, Answered, AnswersAll, shape_of, stop_text, stop_status, status_of}
-use Rattle.fs_cli.specs.Writing.{IsJust, WithStatus}
+use Rattle.fs_cli.specs.Writing.{IsThisText, WithStatus}
 use Rattle.fs_cli.proofs.Texts.{all_one}
 
 -- each text is one job or has one first fault
@@ -43,7 +43,7 @@ texts_along a b s t output r e of_s of_t all texts =
 
 -- ---- what an answer is, for each reason
 
-pub only_long : (bytes : List ℕ) → most_bytes < length bytes → (output : List ℕ) (r : Status) → IsAnswered bytes output r → IsJust (fault_text TooLong) status.Refused output r
+pub only_long : (bytes : List ℕ) → most_bytes < length bytes → (output : List ℕ) (r : Status) → IsAnswered bytes output r → IsThisText (fault_text TooLong) status.Refused output r
 only_long bytes many output r (Too_long a s e) = (e, s)
 only_long bytes many output r (At_fault n a fault s e) = absurd (omega arith)
 only_long bytes many output r (Not_built j k a reads first s e) = absurd (omega arith)
@@ -51,14 +51,14 @@ only_long bytes many output r (Answered j u p a reads surface shape all texts s)
 
 module _ (law : JobLaw) (bytes : List ℕ) where
   pub only_fault : (fault : Fault) → length bytes ≤ most_bytes → IsFirstFault bytes fault → (output : List ℕ) (r : Status) → IsAnswered bytes output r
-      → IsJust (fault_text fault) status.Refused output r
+      → IsThisText (fault_text fault) status.Refused output r
   only_fault n few fault output r (Too_long a s e) = absurd (omega arith)
   only_fault n few fault output r (At_fault n' a fault' s e) = (e ∙ ap (λ (k : Fault). fault_text k) (law.one_fault bytes n' n fault' fault), s)
   only_fault n few fault output r (Not_built j k a reads first s e) = absurd (law.not_both bytes j n reads fault)
   only_fault n few fault output r (Answered j u p a reads surface shape all texts s) = absurd (law.not_both bytes j n reads fault)
 
   pub only_stop : (draft : Draft) (test : Test) → length bytes ≤ most_bytes → ReadsJob bytes draft → IsFirstFailure draft.d (shape_of draft) test → (output : List ℕ) (r : Status)
-      → IsAnswered bytes output r → IsJust (stop_text (answer test)) (stop_status (answer test)) output r
+      → IsAnswered bytes output r → IsThisText (stop_text (answer test)) (stop_status (answer test)) output r
   only_stop j k few reads first output r (Too_long a s e) = absurd (omega arith)
   only_stop j k few reads first output r (At_fault n a fault s e) = absurd (law.not_both bytes j n reads fault)
   only_stop j k few reads first output r (Not_built j' k' a reads' first' s e) =

@@ -10,6 +10,7 @@ use Rattle.fs_fraction.specs.Fraction.{Fraction}
 use Rattle.fs_fraction.specs.Number.{Reads, number, too_wide, undefined, foreign as unspelled, Written, Rational, Root, Both, IsDefined, over_value, under_value, under_runs, value}
 use Rattle.fs_gluing.specs.declared.faults.Fault.{Fault}
 use Rattle.fs_gluing.specs.declared.shapes.Point.{Point}
+use Rattle.fs_gluing.proofs.SomeSurface.{HasDenominators}
 use Rattle.fs_job.specs.Grammar.{Draft, Progress, Nothing, Headed, Drafted, Ended, draft_of, MayCome, HasRoom, MakesSense, ArePoints, Adds, Next, Faulty, Leads, foreign, blank, headed, unheaded, misplaced, crowded, unread, senseless, taken, Path, ReadsJob}
 use Rattle.fs_job.specs.Pieces.{lines_of}
 use Rattle.fs_job.specs.Statement.{Pair, Statement, Field_line, Polygon_line, Glue_line, Command_line, End_line}
@@ -44,10 +45,6 @@ reads_positive text x (number w spells narrow defined is) = subst (λ (y : Fract
 reads_positive text x (too_wide w spells wide is) = absurd (no_value x _ is)
 reads_positive text x (undefined w spells narrow not is) = absurd (no_value x _ is)
 reads_positive text x (unspelled none is) = absurd (no_value x _ is)
-
--- both denominators are above 0
-abbrev pub HasDenominators : Point → Type 0
-HasDenominators point = (0 < point.x.den) × (0 < point.y.den)
 
 points_positive : (pairs : List Pair) (points : List Point) → ArePoints pairs points → AllByRecursion HasDenominators points
 points_positive [] [] a = tt

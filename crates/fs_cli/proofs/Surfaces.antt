@@ -1,159 +1,14 @@
 -- There is a surface of each job whose shape passes all tests.
-use Rattle.std.proofs.Common.{◌≢◌, ℕ, ◌+◌, ◌<◌, pos, ◌<ℤ◌, Option, Some, None, cond, List, [], ◌∷◌, ◌++◌, length, map, refl, sym, subst, arith, append-nil, append_assoc}
-use Rattle.std.proofs.lemmas.Int.{ints}
-use Rattle.std.specs.BTreeMap.{is_at}
-use Rattle.std.specs.Option.{IsSome}
-use Rattle.std.specs.List.{AllByRecursion, Contains, range_with_len}
-use Rattle.fs_quadratic.proofs.Firsts.{All-append, All-front, All-back}
-use Rattle.fs_quadratic.specs.Radicand.{IsRadicand}
-use Rattle.fs_quadratic.specs.Width.{InWidth}
-use Rattle.fs_fraction.proofs.Divisors.{multiple_positive}
-use Rattle.fs_plane.specs.declared.corners.Corner.{Corner}
-use Rattle.fs_plane.specs.declared.vector.V2.{V2}
-use Rattle.fs_gluing.specs.declared.shapes.Glue.{Glue}
+use Rattle.std.proofs.Common.{◌≢◌, ℕ, ◌<◌, List, [], ◌∷◌, length, refl, arith}
+use Rattle.std.specs.List.{AllByRecursion}
 use Rattle.fs_gluing.specs.declared.shapes.Point.{Point}
-use Rattle.fs_gluing.specs.declared.shapes.Shape.{Shape}
-use Rattle.fs_gluing.specs.declared.surfaces.Side.{Side}
-use Rattle.fs_gluing.specs.FirstFault.{Test, Scale, Line, Glued, Reached, PassesOf, PassesLine, Joins, tests, tests_of, tests_from, line_tests}
-use Rattle.fs_gluing.specs.Gluing.{ArePartners, corner_cmp, glued_rows}
-use Rattle.fs_gluing.specs.Polygons.{all_sides}
-use Rattle.fs_gluing.specs.Reached.{IsReached}
-use Rattle.fs_gluing.specs.Scaling.{PlacedSide, placed, placed_row, placed_from, common_from, common_multiple, common_den, common_tests, part_tests, scale_tests, PassesScale}
-use Rattle.fs_gluing.specs.Shape.{IsWithinLimits, HasShape, glued_sides, polygons_of}
-use Rattle.fs_gluing.specs.Surface.{GluedPolygons, IsSurface, AreNeighbours}
-use Rattle.fs_gluing.proofs.Checks.{All-weaker}
-use Rattle.fs_gluing.proofs.Glued.{IsPaired, All-from_map, rows_length, joined_neighbours}
-use Rattle.fs_gluing.proofs.Judged.{IsScaled, is_scaled, passed_on, built}
-use Rattle.fs_gluing.proofs.Pairs.{partners_more, listed_has_partner}
+use Rattle.fs_gluing.specs.FirstFault.{PassesOf, tests_of}
+use Rattle.fs_gluing.specs.Shape.{HasShape}
+use Rattle.fs_gluing.specs.Surface.{GluedPolygons, IsSurface}
+use Rattle.fs_gluing.proofs.SomeSurface.{some_surface}
 use Rattle.fs_job.specs.Grammar.{Draft, ReadsJob}
 use Rattle.fs_cli.specs.Answer.{shape_of}
-use Rattle.fs_cli.proofs.Drafts.{HasDenominators, job_known}
-
--- ---- the common denominator
-
-abbrev HasOwn : PlacedSide → Type 0
-HasOwn s = HasDenominators s.vector
-
-row_placed : (i j : ℕ) (points : List Point) → AllByRecursion HasDenominators points → AllByRecursion HasOwn (placed_row i j points)
-row_placed i j [] a = tt
-row_placed i j (point ∷ points) a = (a.0, row_placed i (j + 1) points a.1)
-
-all_placed : (i : ℕ) (polygons : List (List Point)) → AllByRecursion (AllByRecursion HasDenominators) polygons → AllByRecursion HasOwn (placed_from i polygons)
-all_placed i [] a = tt
-all_placed i (polygon ∷ polygons) a = All-append HasOwn (placed_row i 0 polygon) (placed_from (i + 1) polygons) (row_placed i 0 polygon a.0) (all_placed (i + 1) polygons a.1)
-
-common_positive : (m : ℕ) (sides : List PlacedSide) → 0 < m → AllByRecursion HasOwn sides → 0 < common_from m sides
-common_positive m [] h a = h
-common_positive m (s ∷ sides) h a =
-    common_positive (common_multiple (common_multiple m s.vector.x.den) s.vector.y.den) sides
-    (multiple_positive (common_multiple m s.vector.x.den) s.vector.y.den (multiple_positive m s.vector.x.den h a.0.0) a.0.1) a.1
-
-common_within : (m : ℕ) (sides : List PlacedSide) → InWidth (pos m) → AllByRecursion PassesScale (common_tests m sides) → InWidth (pos (common_from m sides))
-common_within m [] w a = w
-common_within m (s ∷ sides) w a = common_within (common_multiple (common_multiple m s.vector.x.den) s.vector.y.den) sides a.1.0 a.1.1
-
-one_within : InWidth (pos 1)
-one_within = (omega arith, omega arith)
-
-positive : (n : ℕ) → 0 < n → pos 0 <ℤ pos n
-positive n h = omega (arith, ints)
-
--- ---- the partners of the sides
-
-abbrev put : (Corner → Option Corner) → Corner → Corner → Corner → Option Corner
-put p k v c = cond (is_at (corner_cmp k) c) (Some v) (p c)
-
-no_partners : ArePartners [] (λ c. None)
-no_partners = record { of_lines = tt; only = λ c e is. absurd (cc is) }
-
-partners_of : (polygons : List (List V2)) (earlier glues : List Glue) (p : Corner → Option Corner) → ArePartners earlier p → AllByRecursion (PassesLine polygons) (line_tests earlier glues)
-    → (q : Corner → Option Corner) × ArePartners (earlier ++ glues) q
-partners_of polygons earlier [] p a lines = (p, subst (λ (gs : List Glue). ArePartners gs p) (sym (append-nil earlier)) a)
-partners_of polygons earlier (g ∷ glues) p a lines =
-    let more = partners_more polygons earlier g p (put p g.one g.two) (put (put p g.one g.two) g.two g.one) a lines.1.0 (record { at = λ c. refl }) (record { at = λ c. refl }) in
-    let found = partners_of polygons (earlier ++ g ∷ []) glues (put (put p g.one g.two) g.two g.one) more lines.1.1.1 in
-    (found.0, subst (λ (gs : List Glue). ArePartners gs found.0) (append_assoc earlier (g ∷ []) glues) found.1)
-
--- ---- the surface
-
-module _ (d : ℕ) (shape : Shape) (passed : AllByRecursion (PassesOf d shape) (tests_of shape)) where
-  abbrev P : Test → Type 0
-  P = PassesOf d shape
-
-  abbrev polygons : List (List V2)
-  polygons = polygons_of shape
-
-  abbrev glues : List Glue
-  glues = shape.glues
-
-  scales : AllByRecursion PassesScale (scale_tests shape.polygons)
-  scales = All-from_map Scale P (scale_tests shape.polygons) (All-front P (map Scale (scale_tests shape.polygons)) (tests polygons glues) passed)
-
-  abbrev of_reach : List Test
-  of_reach = map Reached (range_with_len 0 (length polygons))
-
-  abbrev of_sides : List Test
-  of_sides = map Glued (all_sides polygons) ++ of_reach
-
-  abbrev of_lines : List Test
-  of_lines = map Line (line_tests [] glues) ++ of_sides
-
-  scaled_pass : AllByRecursion P (tests polygons glues)
-  scaled_pass = All-back P (map Scale (scale_tests shape.polygons)) (tests polygons glues) passed
-
-  each : AllByRecursion P (tests_from 0 polygons)
-  each = All-front P (tests_from 0 polygons) of_lines scaled_pass
-
-  behind_each : AllByRecursion P of_lines
-  behind_each = All-back P (tests_from 0 polygons) of_lines scaled_pass
-
-  lines : AllByRecursion (PassesLine polygons) (line_tests [] glues)
-  lines = All-from_map Line P (line_tests [] glues) (All-front P (map Line (line_tests [] glues)) of_sides behind_each)
-
-  behind_lines : AllByRecursion P of_sides
-  behind_lines = All-back P (map Line (line_tests [] glues)) of_sides behind_each
-
-  listed : AllByRecursion (Contains (glued_sides glues)) (all_sides polygons)
-  listed = All-from_map Glued P (all_sides polygons) (All-front P (map Glued (all_sides polygons)) of_reach behind_lines)
-
-  reached : AllByRecursion (IsReached (Joins glues)) (range_with_len 0 (length polygons))
-  reached = All-from_map Reached P (range_with_len 0 (length polygons)) (All-back P (map Glued (all_sides polygons)) of_reach behind_lines)
-
-  scaled : AllByRecursion (AllByRecursion HasDenominators) shape.polygons → IsScaled shape (pos (common_den shape.polygons)) polygons
-  scaled points =
-      let some = common_positive 1 (placed shape.polygons) (omega arith) (all_placed 0 shape.polygons points) in
-      let commons = All-front PassesScale (common_tests 1 (placed shape.polygons)) (part_tests (common_den shape.polygons) (placed shape.polygons)) scales in
-      is_scaled shape (pos (common_den shape.polygons)) polygons scales refl refl (positive (common_den shape.polygons) some) (common_within 1 (placed shape.polygons) one_within commons)
-
-  module _ (p : Corner → Option Corner) (partners : ArePartners glues p) where
-    paired : IsPaired d polygons glues p
-    paired = record {
-      each = each;
-      lines = lines;
-      partners = partners;
-      sides = All-weaker (Contains (glued_sides glues)) (λ c. IsSome (p c)) (λ c. listed_has_partner glues p c partners) (all_sides polygons) listed;
-    }
-
-    abbrev rows : List (List Side)
-    rows = glued_rows p 0 polygons
-
-    near : AllByRecursion (IsReached (AreNeighbours rows)) (range_with_len 0 (length rows))
-    near = subst (λ n. AllByRecursion (IsReached (AreNeighbours rows)) (range_with_len 0 n)) (sym (rows_length p 0 polygons))
-        (All-weaker (IsReached (Joins glues)) (IsReached (AreNeighbours rows))
-        (λ k r held start next. r held start (λ i j a. next i j (joined_neighbours d polygons glues p paired i j a)))
-        (range_with_len 0 (length polygons)) reached)
-
-    with_partners : IsRadicand d → IsWithinLimits shape → AllByRecursion (AllByRecursion HasDenominators) shape.polygons → (s : GluedPolygons) × IsSurface s × HasShape d shape s
-    with_partners radicand limits points =
-        let den = pos (common_den shape.polygons) in
-        let s : GluedPolygons = record { d = d; den = passed_on den; polygons = rows } in
-        let judged = built d shape den polygons (scaled points) p paired s radicand limits near refl in
-        (s, judged.0, judged.1)
-
-  pub surface_of : IsRadicand d → IsWithinLimits shape → AllByRecursion (AllByRecursion HasDenominators) shape.polygons → (s : GluedPolygons) × IsSurface s × HasShape d shape s
-  surface_of radicand limits points =
-      let found = partners_of polygons [] glues (λ c. None) no_partners lines in
-      with_partners found.0 found.1 radicand limits points
+use Rattle.fs_cli.proofs.Drafts.{job_known}
 
 some_of : (polygons : List (List Point)) → polygons ≢ [] → 0 < length polygons
 some_of [] h = absurd (h refl)
@@ -163,5 +18,5 @@ pub surface_of_job : (bytes : List ℕ) (draft : Draft) → ReadsJob bytes draft
     → (s : GluedPolygons) × IsSurface s × HasShape draft.d (shape_of draft) s
 surface_of_job bytes draft reads passed =
     let known = job_known bytes draft reads in
-    surface_of draft.d (shape_of draft) passed known.0.radicand
+    some_surface draft.d (shape_of draft) passed known.0.radicand
     (record { some_polygon = some_of draft.polygons known.1; polygons = known.0.polygons; sides = known.0.sides }) known.0.points

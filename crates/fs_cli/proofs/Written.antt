@@ -20,7 +20,7 @@ use Rattle.fs_report.proofs.OneAnswer.{one_text}
 use Rattle.fs_cli.specs.declared.outcome.Status.{Status}
 use Rattle.fs_cli.specs.declared.outcome.Status.TheVariants as status
 use Rattle.fs_cli.specs.Answer.{IsAnswered, At_fault, Not_built, Answered, BeginsAnswer, shape_of, stop_text, stop_status, AnswersAll, status_of}
-use Rattle.fs_cli.specs.Writing.{Writes, IsJust, WithStatus, BeginsEach}
+use Rattle.fs_cli.specs.Writing.{Writes, IsThisText, WithStatus, BeginsEach}
 use Rattle.fs_cli.proofs.Answered.{JobLaw, only_long, only_fault, only_stop, only_texts}
 
 -- nothing is the front of each answer
@@ -30,7 +30,7 @@ begins_with_nothing (Some bytes) held = ([], λ output result answered. (output,
 
 -- bytes that are too many
 pub begins_too_long : (old new : Option (List ℕ)) (taken : List ℕ) (held held' : Option (List ℕ)) → Consumes old new taken → length taken ≡ most_bytes + 1
-    → (front : List ℕ) × BeginsEach (IsJust (fault_text TooLong) status.Refused) front × Appends held held' front
+    → (front : List ℕ) × BeginsEach (IsThisText (fault_text TooLong) status.Refused) front × Appends held held' front
     → IfSome old (λ bytes. (front : List ℕ) × BeginsAnswer bytes front × Appends held held' front)
 begins_too_long None new taken held held' c many wrote = tt
 begins_too_long (Some bytes) None taken held held' c many wrote = absurd c
@@ -57,14 +57,14 @@ module _ (result : Status) (held held' : Option (List ℕ)) (faults faults' : �
   }
 
   -- this text with this status is all that is meant
-  writes_just : (N : List ℕ → Status → Type 0) (text : List ℕ) (meant : Status) → N text meant → ((output : List ℕ) (r : Status) → N output r → IsJust text meant output r)
-      → Writes (IsJust text meant) result held held' faults faults' → Writes N result held held' faults faults'
+  writes_just : (N : List ℕ → Status → Type 0) (text : List ℕ) (meant : Status) → N text meant → ((output : List ℕ) (r : Status) → N output r → IsThisText text meant output r)
+      → Writes (IsThisText text meant) result held held' faults faults' → Writes N result held held' faults faults'
   writes_just N text meant holds only =
-      writes_meant (IsJust text meant) N (λ output r just. subst (λ (t : List ℕ). N t r) (sym just.0) (subst (N text) (sym just.1) holds)) only
+      writes_meant (IsThisText text meant) N (λ output r just. subst (λ (t : List ℕ). N t r) (sym just.0) (subst (N text) (sym just.1) holds)) only
 
   -- the same text
-  pub writes_along : (text text' : List ℕ) (meant : Status) → text ≡ text' → Writes (IsJust text meant) result held held' faults faults' → Writes (IsJust text' meant) result held held' faults faults'
-  writes_along text text' meant e = subst (λ (t : List ℕ). Writes (IsJust t meant) result held held' faults faults') e
+  pub writes_along : (text text' : List ℕ) (meant : Status) → text ≡ text' → Writes (IsThisText text meant) result held held' faults faults' → Writes (IsThisText text' meant) result held held' faults faults'
+  writes_along text text' meant e = subst (λ (t : List ℕ). Writes (IsThisText t meant) result held held' faults faults') e
 
   -- the same commands
   pub writes_commands : (s : GluedPolygons) (commands commands' : List Command) → commands ≡ commands'
@@ -73,7 +73,7 @@ module _ (result : Status) (held held' : Option (List ℕ)) (faults faults' : �
 
   -- the text of a command
   pub writes_command : (s : GluedPolygons) (command : Command) (text : List ℕ) (partial : Bool) (meant : Status) → IsSurface s → Answers s command text partial → meant ≡ status_of partial
-      → Writes (IsJust text meant) result held held' faults faults' → Writes (WithStatus (Answers s command)) result held held' faults faults'
+      → Writes (IsThisText text meant) result held held' faults faults' → Writes (WithStatus (Answers s command)) result held held' faults faults'
   writes_command s command text partial meant surface answers is =
       writes_just (WithStatus (Answers s command)) text meant (partial, answers, is)
       (λ output r means.
@@ -83,7 +83,7 @@ module _ (result : Status) (held held' : Option (List ℕ)) (faults faults' : �
   module _ (law : JobLaw) (bytes : List ℕ) (few : length bytes ≤ most_bytes) where
     -- bytes that are no job
     pub writes_fault : (e : JobStop) (fault : Fault) → e ≡ job_stops.Fault fault → (e ≡ job_stops.NoMemory) ⊎ ((f : Fault) × (e ≡ job_stops.Fault f) × IsFirstFault bytes f)
-        → Writes (IsJust (fault_text fault) status.Refused) result held held' faults faults' → Writes (IsAnswered bytes) result held held' faults faults'
+        → Writes (IsThisText (fault_text fault) status.Refused) result held held' faults faults' → Writes (IsAnswered bytes) result held held' faults faults'
     writes_fault e fault is told =
         writes_just (IsAnswered bytes) (fault_text fault) status.Refused (At_fault fault few first refl refl) (only_fault law bytes fault few first)
       where
@@ -101,7 +101,7 @@ module _ (result : Status) (held held' : Option (List ℕ)) (faults faults' : �
 
     -- a job whose shape isn't built
     pub writes_stop : (draft : Draft) (e stop : BuildStop) → e ≡ stop → ReadsJob bytes draft → Judges draft.d (shape_of draft) (Err e) → stop ≢ stops.NoMemory
-        → Writes (IsJust (stop_text stop) (stop_status stop)) result held held' faults faults' → Writes (IsAnswered bytes) result held held' faults faults'
+        → Writes (IsThisText (stop_text stop) (stop_status stop)) result held held' faults faults' → Writes (IsAnswered bytes) result held held' faults faults'
     writes_stop draft e stop is reads judged some w = elim judged [
       | inl none ↦ absurd (some (sym is ∙ none))
       | inr failed ↦ stopped failed.0 failed.1 (sym is ∙ failed.2)

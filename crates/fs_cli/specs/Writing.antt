@@ -7,8 +7,8 @@ use Rattle.fs_cli.specs.declared.outcome.Status.TheVariants as status
 use Rattle.fs_cli.specs.Answer.{IsWhole, IsBroken, status_of}
 
 -- this text, with this status
-abbrev pub IsJust : List ℕ → Status → List ℕ → Status → Type 0
-IsJust text meant output result = (output ≡ text) × (result ≡ meant)
+abbrev pub IsThisText : List ℕ → Status → List ℕ → Status → Type 0
+IsThisText text meant output result = (output ≡ text) × (result ≡ meant)
 
 -- such a text, with the status that it has by whether it is partial
 abbrev pub WithStatus : (List ℕ → Bool → Type 0) → List ℕ → Status → Type 0

@@ -45,8 +45,8 @@ fn answer<O: Sink>(alloc: Global, bytes: &[u8], out: &mut O) -> Status
 /// Reads a job, answers it, and says how that went.
 ///
 /// No word is admitted. `Refused` writes the line of the first fault. `Partial` writes the line of
-/// the site where building left the width, or the answers of the commands in order, of which one
-/// isn't whole. `Done` writes the answers of the commands in order: nothing where there are none.
+/// the site where building left the width, or the answers of the commands in order, of which at least
+/// one isn't whole. `Done` writes the answers of the commands in order: nothing where there are none.
 pub fn flat<I: Source, O: Sink>(
     alloc: Global,
     words: &[String],

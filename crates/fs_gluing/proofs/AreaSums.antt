@@ -1,7 +1,6 @@
 -- The area, triangle by triangle and polygon by polygon.
 use Rattle.std.proofs.Common.{◌≡◌, ℕ, zero, suc, ◌+◌, ◌-◌, ◌<◌, ◌≤◌, Bool, true, false, Result, Ok, Err, Option, Some, List, [], ◌∷◌, ◌++◌, length, map, drop, sym, ap, ◌∙◌, refl, subst, arith}
-use Rattle.std.proofs.lemmas.Grind.{common_steps}
-use Rattle.std.proofs.lemmas.List.{drop_more, length-map, length-drop}
+use Rattle.std.proofs.lemmas.List.{drop_all, drop_more, length-map, length-drop}
 use Rattle.std.proofs.lemmas.Option.{slice_get-map, slice_get_within, get_or_from_slice_get, IfSome_then}
 use Rattle.std.specs.Option.{IfSome, option_map}
 use Rattle.std.specs.Bool.{Decides}
@@ -26,7 +25,7 @@ use Rattle.fs_plane.specs.Checked.{◌>>=◌, checked_sum, step}
 use Rattle.fs_plane.specs.Formulas.{cross_after}
 use Rattle.fs_plane.proofs.FormulaLaws.{cross_value}
 use Rattle.fs_gluing.specs.declared.surfaces.Side.{Side}
-use Rattle.fs_gluing.specs.Area.{Triangle, triangles_from, triangles_of, all_triangles, triangles, twice_areas_from, twice_area, add_triangle, behind, sum_after}
+use Rattle.fs_gluing.specs.Area.{Triangle, triangles_from, triangles_of, all_triangles, triangles, twice_triangle, twice_areas, twice_area, add_triangle, behind, sum_after}
 use Rattle.fs_gluing.specs.Places.{places_from}
 use Rattle.fs_gluing.specs.Surface.{GluedPolygons, IsSurface, side_vectors}
 use Rattle.fs_gluing.proofs.EachPolygon.{each_short}
@@ -186,15 +185,12 @@ summed_stops d polygons i sum site l h s =
     ∙ sum_after-stop d sum site (triangles_of i (side_vectors polygon)) (triangles_after polygons (i + 1))
     (value_at (slice_get polygons i) (λ polygon. Err site ≡ sum_after d sum (triangles_of i (side_vectors polygon))) polygon there h))
 
-no_more : (rows : List (List V2)) (n : ℕ) → length rows ≤ n → drop n rows ≡ []
-no_more rows n l = grind (arith, common_steps)
-
 pub summed_all : (d : ℕ) (polygons : List (List Side)) (n : ℕ) (sum : Quadratic) → length polygons ≤ n → SummedTo d polygons n sum
     → Ok sum ≡ sum_after d ring.zero (triangles_after polygons 0)
 summed_all d polygons n sum l s =
     let rows : List (List V2) = map side_vectors polygons in
     let long : length rows ≤ n = omega (arith, length-map polygons side_vectors) in
-    sym (s.is ∙ ap (λ r. sum_after d sum (all_triangles n r)) (no_more rows n long))
+    sym (s.is ∙ ap (λ r. sum_after d sum (all_triangles n r)) (drop_all n rows long))
 
 -- ---- what the sum is
 
@@ -202,10 +198,7 @@ module _ {A : Type 0} {R : Operations A} (L : IsCommutativeRing R) where
   twice_area-from_zero : (a b : plane.Vector A) → plane.twice_area R (plane.zero_vector R) a b ≡ plane.cross R a b
   twice_area-from_zero a b = plane_identity L [] (a ∷ b ∷ []) (λ a b. plane.twice_area E (plane.zero_vector E) a b ≐ plane.cross E a b) refl
 
-abbrev twice_area_of : ℕ → Triangle → Quadratic
-twice_area_of d t = plane.twice_area (quadratic d) (vector_of vector_zero) (vector_of t.one) (vector_of t.two)
-
-cross_of : (d : ℕ) (t : Triangle) → cross d t.one t.two ≡ twice_area_of d t
+cross_of : (d : ℕ) (t : Triangle) → cross d t.one t.two ≡ twice_triangle d t
 cross_of d t = sym (twice_area-from_zero (quadratic_ring d) (vector_of t.one) (vector_of t.two))
 
 value_of_step : {A : Type 0} (n : ℕ) (test : Bool) (value x : A) → step n test value ≡ Ok x → x ≡ value
@@ -213,25 +206,33 @@ value_of_step n true value x e = cc
 value_of_step n false value x e = cc
 
 sum_of_part : (d : ℕ) (sum next : Quadratic) (t : Triangle) (r : Result Quadratic Place) → cross_after 0 d t.one t.two ≡ r
-    → r >>= (λ part. checked_sum 4 sum part) ≡ Ok next → next ≡ add sum (twice_area_of d t)
+    → r >>= (λ part. checked_sum 4 sum part) ≡ Ok next → next ≡ add sum (twice_triangle d t)
 sum_of_part d sum next t (Ok x) e f =
     value_of_step 4 (is_fitting (add sum x)) (add sum x) next f ∙ ap (add sum) (cross_value 0 d t.one t.two x e ∙ cross_of d t)
 sum_of_part d sum next t (Err stop) e f = cc
 
-triangle_value : (d : ℕ) (sum next : Quadratic) (t : Triangle) → add_triangle d sum t ≡ Ok next → next ≡ add sum (twice_area_of d t)
+triangle_value : (d : ℕ) (sum next : Quadratic) (t : Triangle) → add_triangle d sum t ≡ Ok next → next ≡ add sum (twice_triangle d t)
 triangle_value d sum next t e = sum_of_part d sum next t (cross_after 0 d t.one t.two) refl e
 
 value_behind : (d : ℕ) (sum : Quadratic) (t : Triangle) (r : Result Quadratic Place) (ts : List Triangle) (x : Quadratic) → add_triangle d sum t ≡ r
-    → behind t r (λ next. sum_after d next ts) ≡ Ok x → ((next : Quadratic) → sum_after d next ts ≡ Ok x → x ≡ twice_areas_from d next ts)
-    → x ≡ twice_areas_from d (add sum (twice_area_of d t)) ts
-value_behind d sum t (Ok next) ts x e f h = h next f ∙ ap (λ n. twice_areas_from d n ts) (triangle_value d sum next t e)
+    → behind t r (λ next. sum_after d next ts) ≡ Ok x → ((next : Quadratic) → sum_after d next ts ≡ Ok x → x ≡ add next (twice_areas d ts))
+    → x ≡ add sum (twice_areas d (t ∷ ts))
+value_behind d sum t (Ok next) ts x e f h =
+    h next f
+    ∙ (ap (λ (n : Quadratic). add n (twice_areas d ts)) (triangle_value d sum next t e)
+    ∙ (quadratic_ring d).add_assoc sum (twice_triangle d t) (twice_areas d ts))
 value_behind d sum t (Err stop) ts x e f h = cc
 
-sum_value : (d : ℕ) (sum : Quadratic) (ts : List Triangle) (x : Quadratic) → sum_after d sum ts ≡ Ok x → x ≡ twice_areas_from d sum ts
-sum_value d sum [] x e = cc
+same_sum : (sum x : Quadratic) → ◌≡◌ {A = Result Quadratic Site} (Ok sum) (Ok x) → x ≡ sum
+same_sum sum x e = cc
+
+sum_value : (d : ℕ) (sum : Quadratic) (ts : List Triangle) (x : Quadratic) → sum_after d sum ts ≡ Ok x → x ≡ add sum (twice_areas d ts)
+sum_value d sum [] x e = same_sum sum x e ∙ sym ((quadratic_ring d).add_zero sum)
 sum_value d sum (t ∷ ts) x e = value_behind d sum t (add_triangle d sum t) ts x refl e (λ next. sum_value d next ts x)
 
 -- where the sum is computed, it is twice the area
 pub area_of_sum : (s : GluedPolygons) (r : Result Quadratic Site) → r ≡ sum_after s.d ring.zero (triangles s) → IfOk r (λ x. x ≡ twice_area s)
-area_of_sum s (Ok x) e = sum_value s.d ring.zero (triangles s) x (sym e)
+area_of_sum s (Ok x) e =
+    sum_value s.d ring.zero (triangles s) x (sym e)
+    ∙ ((quadratic_ring s.d).add_comm ring.zero (twice_area s) ∙ (quadratic_ring s.d).add_zero (twice_area s))
 area_of_sum s (Err site) e = tt

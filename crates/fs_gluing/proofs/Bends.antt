@@ -1,8 +1,6 @@
 -- The corners of a polygon in turn.
-use Rattle.std.proofs.Common.{◌≡◌, ◌≢◌, ℕ, ◌+◌, ◌-◌, ◌≤◌, Bool, true, false, cond, List, [], ◌∷◌, ◌++◌, Result, Ok, Err, length, drop, sym, ap, ◌∙◌, refl, subst, arith, unwrap_or}
-use Rattle.std.proofs.lemmas.Grind.{common_steps}
+use Rattle.std.proofs.Common.{◌≡◌, ◌≢◌, ℕ, ◌+◌, ◌-◌, ◌≤◌, Bool, true, false, List, [], ◌∷◌, ◌++◌, Result, Ok, Err, length, drop, sym, ap, ◌∙◌, refl, subst, arith, unwrap_or}
 use Rattle.std.proofs.lemmas.List.{drop_more}
-use Rattle.std.proofs.lemmas.List.Sums.{sum_by-cons}
 use Rattle.std.specs.List.{AllByRecursion, count_by, slice_get}
 use Rattle.std.specs.declared.cmp.Ordering.{Ordering}
 use Rattle.std.specs.Bool.{◌==◌}
@@ -26,8 +24,9 @@ use Rattle.fs_gluing.specs.declared.faults.BuildStop.TheVariants as stops
 use Rattle.fs_gluing.specs.Convex.{Bend, bends, bends_from, last_side, is_rise}
 use Rattle.fs_gluing.specs.FirstFault.{PolygonTest, Cross_fits, Left, PassesIn, corner_tests}
 use Rattle.fs_gluing.specs.Checks.{PassesBefore, AnswersFirst}
-use Rattle.fs_gluing.proofs.Checks.{passes_before_none, passes_before_more, passes_before_same, all_from_passes_before, answers_first_of_rest, answers_first_of_head, answers_first_of_front}
+use Rattle.fs_gluing.proofs.Checks.{passes_before_more, passes_before_same, answers_first_of_rest, answers_first_of_head, answers_first_of_front}
 use Rattle.fs_gluing.proofs.Items.{IsItem}
+use Rattle.fs_gluing.proofs.Vectors.{false_not_true}
 use Rattle.fs_gluing.proofs.Walks.{answer_in}
 
 last_side_at : (side : V2) (sides : List V2) → unwrap_or (slice_get (side ∷ sides) (length sides)) vector_zero ≡ last_side (side ∷ sides)
@@ -42,9 +41,6 @@ last_side_is (side ∷ sides) =
     ap (λ n. unwrap_or (slice_get (side ∷ sides) n) vector_zero) e ∙ last_side_at side sides
 
 -- ---- one corner
-
-false_not_true : false ≡ true → ⊥
-false_not_true e = cc
 
 -- what `== Ordering::Greater` answers
 pub greater_from_eq : (o : Ordering) (b : Bool) → b ≡ (ordering_index o == 2) → b ≡ true → o ≡ Greater
@@ -127,9 +123,6 @@ module _ (d : ℕ) (sides : List V2) (j : ℕ) (bend : Bend) where
 pub record TurnsTo (d : ℕ) (sides : List V2) (j : ℕ) (before : V2) : Type 0 where
   pub passed : PassesBefore (PassesIn d sides) (corner_tests 0 (bends sides)) (corner_tests j (bends_from before (drop j sides)))
 
-pub corners_none : (d : ℕ) (sides : List V2) (before : V2) → before ≡ last_side sides → TurnsTo d sides 0 before
-corners_none d sides before is = record { passed = passes_before_none _ _ _ (ap (λ b. corner_tests 0 (bends_from b sides)) (sym is)) }
-
 next_tests : (sides : List V2) (j : ℕ) (before side : V2) → IsItem sides j side
     → corner_tests j (bends_from before (drop j sides)) ≡ corner_tests j ((record { before = before; after = side }) ∷ []) ++ corner_tests (j + 1) (bends_from side (drop (j + 1) sides))
 next_tests sides j before side item = ap (λ ss. corner_tests j (bends_from before ss)) (drop_more sides j side item.inside ∙ ap (λ s. s ∷ drop (j + 1) sides) (sym item.is))
@@ -145,49 +138,9 @@ pub corner_fails : (d : ℕ) (sides : List V2) (i j : ℕ) (before side : V2) (e
 corner_fails d sides i j before side e item t a =
     answers_first_of_rest _ _ _ _ _ (passes_before_same _ _ _ _ (next_tests sides j before side item) t.passed) (answers_first_of_front _ _ _ _ _ a)
 
-drop_all : (sides : List V2) (n : ℕ) → n ≡ length sides → drop n sides ≡ []
-drop_all sides n e = grind (arith, common_steps)
-
-pub corners_all : (d : ℕ) (sides : List V2) (n : ℕ) (before : V2) → n ≡ length sides → TurnsTo d sides n before → AllByRecursion (PassesIn d sides) (corner_tests 0 (bends sides))
-corners_all d sides n before e t =
-    all_from_passes_before _ _ (passes_before_same _ _ _ _ (ap (λ ss. corner_tests n (bends_from before ss)) (drop_all sides n e)) t.passed)
-
 -- ---- rises counted
 
 -- the rises so far, and those at the corners to come, are all of them
 pub record Rises (d : ℕ) (sides : List V2) (j : ℕ) (before : V2) (rises : ℕ) : Type 0 where
   pub few : rises ≤ j
   pub counted : rises + count_by (is_rise d) (bends_from before (drop j sides)) ≡ count_by (is_rise d) (bends sides)
-
-pub rises_none : (d : ℕ) (sides : List V2) (before : V2) → before ≡ last_side sides → Rises d sides 0 before 0
-rises_none d sides before is =
-    let zero_left : 0 + count_by (is_rise d) (bends_from before sides) ≡ count_by (is_rise d) (bends_from before sides) = omega arith in
-    record { few = omega arith; counted = zero_left ∙ ap (λ b. count_by (is_rise d) (bends_from b sides)) is }
-
-next_count : (d : ℕ) (sides : List V2) (j : ℕ) (before side : V2) → IsItem sides j side
-    → count_by (is_rise d) (bends_from before (drop j sides)) ≡ cond (is_rise d (record { before = before; after = side })) 1 0 + count_by (is_rise d) (bends_from side (drop (j + 1) sides))
-next_count d sides j before side item =
-    ap (λ ss. count_by (is_rise d) (bends_from before ss)) (drop_more sides j side item.inside ∙ ap (λ s. s ∷ drop (j + 1) sides) (sym item.is))
-    ∙ sum_by-cons (λ bend. cond (is_rise d bend) 1 0) (record { before = before; after = side }) (bends_from side (drop (j + 1) sides))
-
-pub rise_more : (d : ℕ) (sides : List V2) (j : ℕ) (before side : V2) (rises : ℕ) → IsItem sides j side → Rises d sides j before rises
-    → is_rise d (record { before = before; after = side }) ≡ true → Rises d sides (j + 1) side (rises + 1)
-rise_more d sides j before side rises item r is =
-    let next = next_count d sides j before side item ∙ ap (λ b. cond b 1 0 + count_by (is_rise d) (bends_from side (drop (j + 1) sides))) is in
-    let few = r.few in
-    let counted = r.counted in
-    record { few = omega arith; counted = omega arith }
-
-pub rise_same : (d : ℕ) (sides : List V2) (j : ℕ) (before side : V2) (rises : ℕ) → IsItem sides j side → Rises d sides j before rises
-    → is_rise d (record { before = before; after = side }) ≡ false → Rises d sides (j + 1) side rises
-rise_same d sides j before side rises item r is =
-    let next = next_count d sides j before side item ∙ ap (λ b. cond b 1 0 + count_by (is_rise d) (bends_from side (drop (j + 1) sides))) is in
-    let few = r.few in
-    let counted = r.counted in
-    record { few = omega arith; counted = omega arith }
-
-pub rises_all : (d : ℕ) (sides : List V2) (n : ℕ) (before : V2) (rises : ℕ) → n ≡ length sides → Rises d sides n before rises → rises ≡ count_by (is_rise d) (bends sides)
-rises_all d sides n before rises e r =
-    let none = ap (λ ss. count_by (is_rise d) (bends_from before ss)) (drop_all sides n e) in
-    let counted = r.counted in
-    omega arith

@@ -95,11 +95,12 @@ AreGlued polygons = (c : Corner) (side : Side) → at_side polygons c ≡ Some s
 has_some : {X : Type 0} (polygons : List (List X)) (c : Corner) (x : X) → at_side polygons c ≡ Some x → HasSide polygons c
 has_some polygons c x e = subst IsSome (sym e) refl
 
-record Stands {X : Type 0} (o : Option X) : Type 0 where
-  value : X
-  is : o ≡ Some value
+-- what an option holds
+pub record Stands {X : Type 0} (o : Option X) : Type 0 where
+  pub value : X
+  pub is : o ≡ Some value
 
-stands : {X : Type 0} (o : Option X) → IsSome o → Stands o
+pub stands : {X : Type 0} (o : Option X) → IsSome o → Stands o
 stands None h = cc
 stands (Some x) h = record { value = x; is = refl }
 

@@ -1,7 +1,6 @@
 -- The polygons of a shape in turn.
 use Rattle.std.proofs.Common.{◌≡◌, ◌≤◌, ◌<◌, ◌+◌, ℕ, List, [], ◌∷◌, ◌++◌, length, drop, map, sum_by, sym, ap, ◌∙◌, refl, subst, arith, append_assoc, zero, suc, get_or}
-use Rattle.std.proofs.lemmas.Grind.{common_steps}
-use Rattle.std.proofs.lemmas.List.{drop_more, length-map, append-nil}
+use Rattle.std.proofs.lemmas.List.{drop_more, drop_all, length-map, append-nil}
 use Rattle.std.proofs.lemmas.List.Sums.{sum_by-cons}
 use Rattle.std.specs.List.{AllByRecursion}
 use Rattle.fs_quadratic.proofs.Firsts.{All-map}
@@ -15,7 +14,7 @@ use Rattle.fs_gluing.specs.Scaling.{common_den, scaled_vector}
 use Rattle.fs_gluing.specs.Shape.{polygons_of, IsWithinLimits}
 use Rattle.fs_gluing.specs.FirstFault.{PassesIn, polygon_tests, Polygon, Passes, answer, tests_from}
 use Rattle.fs_gluing.specs.Checks.{PassesBefore, AnswersFirst}
-use Rattle.fs_gluing.proofs.Checks.{passes_before_none, passes_before_more, passes_before_same, all_from_passes_before, answers_first_of_rest, answers_first_of_front, answers_first_of_map}
+use Rattle.fs_gluing.proofs.Checks.{passes_before_more, passes_before_same, all_from_passes_before, answers_first_of_rest, answers_first_of_front, answers_first_of_map}
 use Rattle.fs_gluing.proofs.Items.{IsItem}
 use Rattle.fs_gluing.proofs.Walks.{answer_in}
 
@@ -23,12 +22,6 @@ use Rattle.fs_gluing.proofs.Walks.{answer_in}
 pub record Passed (d : ℕ) (polygons : List (List V2)) (i : ℕ) (places : List (List V2)) : Type 0 where
   pub passed : (glues : List Glue) → PassesBefore (Passes d polygons glues) (tests_from 0 polygons) (tests_from i (drop i polygons))
   pub places_are : places ++ all_places (drop i polygons) ≡ all_places polygons
-
-pub passed_none : (d : ℕ) (polygons places : List (List V2)) → places ≡ [] → Passed d polygons 0 places
-passed_none d polygons places none = record {
-  passed = λ glues. passes_before_none _ _ _ refl;
-  places_are = ap (λ (ps : List (List V2)). ps ++ all_places polygons) none;
-}
 
 next_polygon : (polygons : List (List V2)) (i : ℕ) (polygon : List V2) → IsItem polygons i polygon → drop i polygons ≡ polygon ∷ drop (i + 1) polygons
 next_polygon polygons i polygon item = drop_more polygons i polygon item.inside ∙ ap (λ p. p ∷ drop (i + 1) polygons) (sym item.is)
@@ -53,14 +46,11 @@ passed_fails d polygons i polygon places e item p a glues =
     answers_first_of_rest _ _ _ _ _ (passes_before_same _ _ _ _ (ap (tests_from i) (next_polygon polygons i polygon item)) (p.passed glues))
     (answers_first_of_front _ _ _ _ _ (answers_first_of_map (Polygon i polygon) (Passes d polygons glues) (polygon_tests polygon) answer e a))
 
-drop_whole : (polygons : List (List V2)) (n : ℕ) → n ≡ length polygons → drop n polygons ≡ []
-drop_whole polygons n e = grind (arith, common_steps)
-
 pub passed_all : (d : ℕ) (polygons : List (List V2)) (n : ℕ) (places : List (List V2)) → n ≡ length polygons → Passed d polygons n places
     → ((glues : List Glue) → AllByRecursion (Passes d polygons glues) (tests_from 0 polygons)) × (places ≡ all_places polygons)
 passed_all d polygons n places e p = (
-  (λ glues. all_from_passes_before _ _ (passes_before_same _ _ _ _ (ap (tests_from n) (drop_whole polygons n e)) (p.passed glues))),
-  sym (append-nil places) ∙ ap (λ (ps : List (List V2)). places ++ all_places ps) (sym (drop_whole polygons n e)) ∙ p.places_are,
+  (λ glues. all_from_passes_before _ _ (passes_before_same _ _ _ _ (ap (tests_from n) (drop_all n polygons (omega (arith, e)))) (p.passed glues))),
+  sym (append-nil places) ∙ ap (λ (ps : List (List V2)). places ++ all_places ps) (sym (drop_all n polygons (omega (arith, e)))) ∙ p.places_are,
 )
 
 -- what holds of each polygon holds of the one at a place

@@ -17,6 +17,7 @@ use Rattle.fs_gluing.specs.Shape.{AreGlued}
 use Rattle.fs_gluing.specs.Surface.{side_vectors, IsPolygon, AreNeighbours, IsGlued, IsSurface}
 use Rattle.fs_gluing.specs.FirstFault.{Closes, Once, PassesIn, polygon_tests, walk_tests, corner_tests, Polygon, Passes, PassesLine, line_tests, AreOpposite, Joins, tests_from, Test}
 use Rattle.fs_gluing.specs.Gluing.{ArePartners, IsPairOf, sides_between, glued_row, glued_rows}
+use Rattle.fs_gluing.proofs.Corners.{stands}
 use Rattle.fs_gluing.proofs.Lines.{lines_hold}
 use Rattle.fs_gluing.proofs.Pairs.{partner_back, pair_other, pair_opposite}
 use Rattle.fs_gluing.proofs.Rows.{side_of}
@@ -123,14 +124,6 @@ comes_from : {X Y : Type 0} (f : X → Y) (o : Option X) (y : Y) → option_map 
 comes_from f None y e = cc
 comes_from f (Some x) y e = record { from = x; there = refl; is = let h : Some (f x) ≡ Some y = e in cc }
 
-record Holds {X : Type 0} (o : Option X) : Type 0 where
-  value : X
-  there : o ≡ Some value
-
-holds_some : {X : Type 0} (o : Option X) → IsSome o → Holds o
-holds_some None h = cc
-holds_some (Some x) h = record { value = x; there = refl }
-
 -- what holds of all sides holds of one that is there
 
 row_holds : (P : Corner → Type 0) (i j : ℕ) (polygon : List V2) (k : ℕ) (a : V2) → AllByRecursion P (sides_between i j (length polygon)) → slice_get polygon k ≡ Some a → P (record { polygon = i; side = j + k })
@@ -213,17 +206,17 @@ module _ (d : ℕ) (polygons : List (List V2)) (glues : List Glue) (p : Corner �
   pub rows_are_glued : (c : Corner) (side : Side) → at_side rows c ≡ Some side → IsGlued rows c side
   rows_are_glued c side there =
       let a = comes_from (side_of p c) (at_side polygons c) side (sym (at_side_rows p polygons c) ∙ there) in
-      let e = holds_some (p c) (has_partner p polygons c a.from h.sides a.there) in
-      subst (IsGlued rows c) a.is (side_is_glued c e.value a.from a.there e.there)
+      let e = stands (p c) (has_partner p polygons c a.from h.sides a.there) in
+      subst (IsGlued rows c) a.is (side_is_glued c e.value a.from a.there e.is)
 
   -- ---- the same neighbours by glued sides and by glue lines
 
   pub neighbours_joined : (i j : ℕ) → AreNeighbours rows i j → Joins glues i j
   neighbours_joined i j n =
       let a = comes_from (side_of p n.corner) (at_side polygons n.corner) n.side (sym (at_side_rows p polygons n.corner) ∙ n.there) in
-      let e = holds_some (p n.corner) (has_partner p polygons n.corner a.from h.sides a.there) in
-      let partner_is : e.value ≡ n.side.partner = sym (ap (λ o. unwrap_or o n.corner) e.there) ∙ ap (λ (s : Side). s.partner) a.is in
-      record { one = n.corner; two = e.value; pair = h.partners.only n.corner e.value e.there; from = n.from; to = ap (λ (c : Corner). c.polygon) partner_is ∙ n.to }
+      let e = stands (p n.corner) (has_partner p polygons n.corner a.from h.sides a.there) in
+      let partner_is : e.value ≡ n.side.partner = sym (ap (λ o. unwrap_or o n.corner) e.is) ∙ ap (λ (s : Side). s.partner) a.is in
+      record { one = n.corner; two = e.value; pair = h.partners.only n.corner e.value e.is; from = n.from; to = ap (λ (c : Corner). c.polygon) partner_is ∙ n.to }
 
   pair_present : (gs : List Glue) (c e : Corner) → AllByRecursion (λ g. HasSide polygons g.one × HasSide polygons g.two) gs → IsPairOf gs c e → HasSide polygons c
   pair_present [] c e a k = absurd k
@@ -241,12 +234,12 @@ module _ (d : ℕ) (polygons : List (List V2)) (glues : List Glue) (p : Corner �
 
   pub joined_neighbours : (i j : ℕ) → Joins glues i j → AreNeighbours rows i j
   joined_neighbours i j k =
-      let a = holds_some (at_side polygons k.one) (pair_present glues k.one k.two lines_present k.pair) in
+      let a = stands (at_side polygons k.one) (pair_present glues k.one k.two lines_present k.pair) in
       let partner_is : unwrap_or (p k.one) k.one ≡ k.two = ap (λ o. unwrap_or o k.one) (pair_partner glues k.one k.two h.partners.of_lines k.pair) in
       record {
         corner = k.one;
         side = side_of p k.one a.value;
-        there = at_side_rows p polygons k.one ∙ ap (option_map (side_of p k.one)) a.there;
+        there = at_side_rows p polygons k.one ∙ ap (option_map (side_of p k.one)) a.is;
         from = k.from;
         to = ap (λ (c : Corner). c.polygon) partner_is ∙ k.to;
       }
@@ -255,8 +248,8 @@ module _ (d : ℕ) (polygons : List (List V2)) (glues : List Glue) (p : Corner �
 
   glued_forth : (one two : Corner) → HasSide polygons one → p one ≡ Some two → (side : Side) × (at_side rows one ≡ Some side) × (side.partner ≡ two)
   glued_forth one two there is =
-      let a = holds_some (at_side polygons one) there in
-      (side_of p one a.value, at_side_rows p polygons one ∙ ap (option_map (side_of p one)) a.there, ap (λ o. unwrap_or o one) is)
+      let a = stands (at_side polygons one) there in
+      (side_of p one a.value, at_side_rows p polygons one ∙ ap (option_map (side_of p one)) a.is, ap (λ o. unwrap_or o one) is)
 
   lines_glued_of : (gs : List Glue) → AllByRecursion (λ g. HasSide polygons g.one × HasSide polygons g.two) gs
       → AllByRecursion (λ g. (p g.one ≡ Some g.two) × (p g.two ≡ Some g.one)) gs → AllByRecursion (λ g. AreGlued rows g.one g.two) gs

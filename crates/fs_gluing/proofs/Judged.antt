@@ -33,7 +33,7 @@ use Rattle.fs_gluing.proofs.Lines.{answer_line}
 use Rattle.fs_gluing.proofs.Pairs.{listed_has_partner, listed_from_partner}
 
 -- more steps reach as much
-reached_along : (A B : ℕ → ℕ → Type 0) → ((i j : ℕ) → A i j → B i j) → (k : ℕ) → IsReached A k → IsReached B k
+pub reached_along : (A B : ℕ → ℕ → Type 0) → ((i j : ℕ) → A i j → B i j) → (k : ℕ) → IsReached A k → IsReached B k
 reached_along A B along k r = λ held start next. r held start (λ i j a. next i j (along i j a))
 
 -- what holds of all numbers of a range holds of each

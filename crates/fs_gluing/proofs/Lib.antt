@@ -15,5 +15,6 @@ pub mod Search
 pub mod Glued
 pub mod InSize
 pub mod Judged
+pub mod SomeSurface
 pub mod OneSurface
 pub mod AreaSums

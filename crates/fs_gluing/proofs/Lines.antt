@@ -1,6 +1,5 @@
 -- The tests of the glue lines, line by line.
-use Rattle.std.proofs.Common.{◌≡◌, ◌≢◌, ℕ, ◌+◌, false, Option, Some, None, List, [], ◌∷◌, ◌++◌, length, take, drop, sym, ap, ◌∙◌, refl, subst, arith}
-use Rattle.std.proofs.lemmas.Grind.{common_steps}
+use Rattle.std.proofs.Common.{◌≡◌, ◌≢◌, ℕ, ◌+◌, false, Option, Some, None, List, [], ◌∷◌, ◌++◌, take, drop, sym, ap, ◌∙◌, refl, subst}
 use Rattle.std.proofs.lemmas.List.{take_more, drop_more}
 use Rattle.std.specs.List.{AllByRecursion}
 use Rattle.std.specs.Option.{IsSome, is_some}
@@ -15,7 +14,7 @@ use Rattle.fs_gluing.specs.Polygons.{HasSide, at_side}
 use Rattle.fs_gluing.specs.FirstFault.{LineTest, Present, Single, Opposite, AreOpposite, PassesLine, line_tests, Line, answer}
 use Rattle.fs_gluing.specs.Gluing.{ArePartners}
 use Rattle.fs_gluing.specs.Checks.{PassesBefore, AnswersFirst}
-use Rattle.fs_gluing.proofs.Checks.{passes_before_none, passes_before_more, passes_before_same, all_from_passes_before, answers_first_of_rest, answers_first_of_head, answers_first_of_front}
+use Rattle.fs_gluing.proofs.Checks.{passes_before_more, passes_before_same, answers_first_of_rest, answers_first_of_head, answers_first_of_front}
 use Rattle.fs_gluing.proofs.Items.{IsItem}
 use Rattle.fs_gluing.proofs.Pairs.{listed_has_partner, listed_from_partner}
 
@@ -96,25 +95,6 @@ pub line_fails : (polygons : List (List V2)) (glues : List Glue) (i : ℕ) (g : 
     → AnswersFirst (PassesLine polygons) (line_tests (take i glues) (g ∷ [])) answer_line e → AnswersFirst (PassesLine polygons) (line_tests [] glues) answer_line e
 line_fails polygons glues i g p e item l a =
     answers_first_of_rest _ _ _ _ _ (passes_before_same _ _ _ _ (next_tests glues i g item) l.passed) (answers_first_of_front _ _ _ _ _ a)
-
-no_partners : (p : Corner → Option Corner) → ((c : Corner) → p c ≡ None) → ArePartners [] p
-no_partners p none = record { of_lines = tt; only = λ c e is. let both : None ≡ Some e = sym (none c) ∙ is in cc }
-
-pub lines_none : (polygons : List (List V2)) (glues : List Glue) (p : Corner → Option Corner) → ((c : Corner) → p c ≡ None) → Lines polygons glues 0 p
-lines_none polygons glues p none = record { passed = passes_before_none _ _ _ refl; partners = no_partners p none }
-
-take_whole : (glues : List Glue) (n : ℕ) → n ≡ length glues → take n glues ≡ glues
-take_whole glues n e = grind (arith, common_steps)
-
-drop_whole : (glues : List Glue) (n : ℕ) → n ≡ length glues → drop n glues ≡ []
-drop_whole glues n e = grind (arith, common_steps)
-
-pub lines_all : (polygons : List (List V2)) (glues : List Glue) (n : ℕ) (p : Corner → Option Corner) → n ≡ length glues → Lines polygons glues n p
-    → AllByRecursion (PassesLine polygons) (line_tests [] glues) × ArePartners glues p
-lines_all polygons glues n p e l = (
-  all_from_passes_before _ _ (passes_before_same _ _ _ _ (ap (line_tests (take n glues)) (drop_whole glues n e)) l.passed),
-  subst (λ gs. ArePartners gs p) (take_whole glues n e) l.partners,
-)
 
 -- ---- what all lines have
 

@@ -1,22 +1,21 @@
 -- A shape that passes all tests has one surface at most.
-use Rattle.std.proofs.Common.{◌≡◌, ℕ, ◌+◌, suc, Some, List, [], ◌∷◌, ◌++◌, length, map, sym, ap, ◌∙◌, refl, subst, arith}
+use Rattle.std.proofs.Common.{◌≡◌, ℕ, ◌+◌, suc, Some, List, [], ◌∷◌, map, sym, ap, ◌∙◌, refl, subst, arith}
 use Rattle.std.proofs.lemmas.List.Elements.{All-contains, All-from_recursion}
 use Rattle.std.proofs.lemmas.Option.{same_Some}
 use Rattle.std.specs.Option.{option_map}
-use Rattle.std.specs.List.{AllByRecursion, Contains, slice_get, range_with_len}
-use Rattle.fs_quadratic.proofs.Firsts.{All-front, All-back}
+use Rattle.std.specs.List.{AllByRecursion, Contains, slice_get}
 use Rattle.fs_plane.specs.declared.corners.Corner.{Corner}
 use Rattle.fs_plane.specs.declared.vector.V2.{V2}
 use Rattle.fs_gluing.specs.declared.shapes.Glue.{Glue}
 use Rattle.fs_gluing.specs.declared.shapes.Shape.{Shape}
 use Rattle.fs_gluing.specs.declared.surfaces.Side.{Side}
-use Rattle.fs_gluing.specs.FirstFault.{Test, Scale, Line, Glued, Reached, PassesOf, tests, tests_of, tests_from, line_tests}
+use Rattle.fs_gluing.specs.FirstFault.{PassesOf, tests_of}
 use Rattle.fs_gluing.specs.Polygons.{at_side, all_sides}
-use Rattle.fs_gluing.specs.Scaling.{scale_tests}
 use Rattle.fs_gluing.specs.Shape.{AreGlued, HasShape, glued_sides, polygons_of}
 use Rattle.fs_gluing.specs.Surface.{GluedPolygons, side_vectors}
-use Rattle.fs_gluing.proofs.Glued.{All-from_map, rows_hold}
+use Rattle.fs_gluing.proofs.Glued.{rows_hold}
 use Rattle.fs_gluing.proofs.InSize.{at_side-map}
+use Rattle.fs_gluing.proofs.SomeSurface.{listed}
 
 -- ---- polygons with the same vectors and the same partners
 
@@ -86,17 +85,6 @@ partners_of_all polygons glues ps qs same listed in_p in_q c a b at_p at_q =
 
 -- ---- the surface
 
-all_listed : (d : ℕ) (shape : Shape) → AllByRecursion (PassesOf d shape) (tests_of shape) → AllByRecursion (Contains (glued_sides shape.glues)) (all_sides (polygons_of shape))
-all_listed d shape passed =
-    let P : Test → Type 0 = PassesOf d shape in
-    let of_sides : List Test = map Glued (all_sides (polygons_of shape)) in
-    let of_reach : List Test = map Reached (range_with_len 0 (length (polygons_of shape))) in
-    let of_lines : List Test = map Line (line_tests [] shape.glues) in
-    let of_polygons : List Test = tests_from 0 (polygons_of shape) in
-    let scaled = All-back P (map Scale (scale_tests shape.polygons)) (tests (polygons_of shape) shape.glues) passed in
-    let behind_lines = All-back P of_lines (of_sides ++ of_reach) (All-back P of_polygons (of_lines ++ (of_sides ++ of_reach)) scaled) in
-    All-from_map Glued P (all_sides (polygons_of shape)) (All-front P of_sides of_reach behind_lines)
-
 same_surface : (s t : GluedPolygons) → s.d ≡ t.d → s.den ≡ t.den → s.polygons ≡ t.polygons → s ≡ t
 same_surface s t d den polygons = λ i. record { d = d i; den = den i; polygons = polygons i }
 
@@ -104,4 +92,4 @@ pub one_surface : (d : ℕ) (shape : Shape) (s t : GluedPolygons) → HasShape d
 one_surface d shape s t of_s of_t passed =
     same_surface s t (of_s.field ∙ sym of_t.field) (of_s.denominator ∙ sym of_t.denominator)
     (same_rows s.polygons t.polygons (of_s.same_vectors ∙ sym of_t.same_vectors)
-    (partners_of_all (polygons_of shape) shape.glues s.polygons t.polygons of_s.same_vectors (all_listed d shape passed) of_s.as_the_lines of_t.as_the_lines))
+    (partners_of_all (polygons_of shape) shape.glues s.polygons t.polygons of_s.same_vectors (listed d shape passed) of_s.as_the_lines of_t.as_the_lines))

@@ -20,6 +20,7 @@ use Rattle.fs_gluing.specs.Polygons.{at_side}
 use Rattle.fs_gluing.specs.Reached.{IsReached}
 use Rattle.fs_gluing.specs.Surface.{AreNeighbours, IsGlued}
 use Rattle.fs_gluing.proofs.Checks.{passes_before_none, passes_before_more, passes_before_same, answers_first_of_rest, answers_first_of_head}
+use Rattle.fs_gluing.proofs.Items.{range_more}
 use Rattle.fs_gluing.proofs.Corners.{stands_in_at}
 
 bool_cases : (b : Bool) → IsTrue b ⊎ (¬ IsTrue b)
@@ -36,14 +37,6 @@ marked_within marks k h = elim (cases_lt k (length marks)) [ inl l ↦ l | inr p
 
 not_in_none : (k : ℕ) → Contains [] k → ⊥
 not_in_none k c = omega (arith, c.1)
-
-pub marks_none : (marks : List Bool) (waiting : List ℕ) → Marks [] marks marks waiting waiting
-marks_none marks waiting = record {
-  long = refl;
-  marked = λ k. (inl, λ h. elim h [ inl m ↦ m | inr c ↦ absurd (not_in_none k c) ]);
-  wait = λ k. (inl, λ h. elim h [ inl c ↦ c | inr p ↦ absurd (p.1 p.0) ]);
-  count = refl;
-}
 
 pub marks_seen : (ks : List ℕ) (k : ℕ) (marks more : List Bool) (waiting longer : List ℕ) → Marks ks marks more waiting longer → IsMarked more k → Marks (ks ++ k ∷ []) marks more waiting longer
 marks_seen ks k marks more waiting longer m seen = record {
@@ -295,11 +288,6 @@ pub reached_none : (polygons : List (List Side)) → ReachesBefore polygons 0
 reached_none polygons =
     let same : length polygons ≡ length polygons - 0 = omega arith in
     passes_before_none _ _ _ (ap (range_with_len 0) same)
-
-range_more : (i n : ℕ) → i < n → range_with_len i (n - i) ≡ i ∷ range_with_len (i + 1) (n - (i + 1))
-range_more i n l =
-    let more : n - i ≡ suc (n - (i + 1)) = omega arith in
-    ap (range_with_len i) more
 
 next_reached : (polygons : List (List Side)) (marks : List Bool) (i : ℕ) → MarksReached polygons marks → i < length marks → ReachesBefore polygons i
     → PassesBefore (IsReached (AreNeighbours polygons)) (range_with_len 0 (length polygons)) (i ∷ range_with_len (i + 1) (length polygons - (i + 1)))

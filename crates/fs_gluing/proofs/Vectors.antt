@@ -57,7 +57,7 @@ Decides-same_corner a b = Decides-like _
 pub one_corner : (a b : Corner) (r : Bool) → r ≡ same_corner a b → r ≡ true → a ≡ b
 one_corner a b r is e = (Decides-same_corner a b).0 (sym is ∙ e)
 
-false_not_true : false ≡ true → ⊥
+pub false_not_true : false ≡ true → ⊥
 false_not_true e = cc
 
 pub two_corners : (a b : Corner) (r : Bool) → r ≡ same_corner a b → r ≡ false → a ≢ b

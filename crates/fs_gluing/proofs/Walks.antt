@@ -1,7 +1,6 @@
 -- The walk round a polygon, side by side.
 use Rattle.std.proofs.Common.{◌≡◌, ◌≢◌, ℕ, ◌+◌, ◌-◌, ◌<◌, List, [], ◌∷◌, ◌++◌, length, get_or, take, drop, sym, ap, ◌∙◌, refl, subst, arith, append_assoc}
-use Rattle.std.proofs.lemmas.Grind.{common_steps}
-use Rattle.std.proofs.lemmas.List.{take_more, take_all, drop_more, append-nil}
+use Rattle.std.proofs.lemmas.List.{take_more, take_all, drop_more, drop_all, append-nil}
 use Rattle.std.specs.List.{AllByRecursion, flat_map, range_with_len}
 use Rattle.fs_quadratic.specs.Ring.{Quadratic, add}
 use Rattle.fs_quadratic.specs.Width.{Fits}
@@ -127,10 +126,7 @@ closes sides n place places e w closed d =
     let a = walk_all sides n place places e w in
     all_from_passes_before _ _ (passes_before_more _ _ (Closes ∷ []) [] (a.1 d) (sym a.0 ∙ closed, tt))
 
-drop_all : (sides : List V2) (n : ℕ) → n ≡ length sides → drop n sides ≡ []
-drop_all sides n e = grind (arith, common_steps)
-
 -- all places were kept
 pub all_walked : (sides : List V2) (n : ℕ) (place : V2) (places : List V2) → n ≡ length sides → WalksTo sides n place places → places ≡ places_from vector_zero sides
 all_walked sides n place places e w =
-    sym (append-nil places) ∙ ap (λ (ss : List V2). places ++ places_from place ss) (sym (drop_all sides n e)) ∙ w.places_are
+    sym (append-nil places) ∙ ap (λ (ss : List V2). places ++ places_from place ss) (sym (drop_all n sides (omega (arith, e)))) ∙ w.places_are

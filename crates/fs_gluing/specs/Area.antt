@@ -34,20 +34,24 @@ abbrev pub all_triangles : ℕ → List (List V2) → List Triangle
 all_triangles i [] = []
 all_triangles i (polygon ∷ polygons) = triangles_of i polygon ++ all_triangles (i + 1) polygons
 
+-- those of a surface, in order
 abbrev pub triangles : GluedPolygons → List Triangle
 triangles s = all_triangles 0 (map side_vectors s.polygons)
 
 -- ---- the area
 
--- twice the areas of these triangles behind a sum
-abbrev pub twice_areas_from : ℕ → Quadratic → List Triangle → Quadratic
-twice_areas_from d sum [] = sum
-twice_areas_from d sum (t ∷ triangles) =
-    twice_areas_from d (add sum (plane.twice_area (quadratic d) (vector_of vector_zero) (vector_of t.one) (vector_of t.two))) triangles
+-- twice the area of a triangle: above 0 where its corners stand counterclockwise
+abbrev pub twice_triangle : ℕ → Triangle → Quadratic
+twice_triangle d t = plane.twice_area (quadratic d) (vector_of vector_zero) (vector_of t.one) (vector_of t.two)
+
+-- that of all of these together
+abbrev pub twice_areas : ℕ → List Triangle → Quadratic
+twice_areas d [] = zero
+twice_areas d (t ∷ triangles) = add (twice_triangle d t) (twice_areas d triangles)
 
 -- twice the area of the surface, times the square of its denominator
 abbrev pub twice_area : GluedPolygons → Quadratic
-twice_area s = twice_areas_from s.d zero (triangles s)
+twice_area s = twice_areas s.d (triangles s)
 
 -- ---- how it is computed
 

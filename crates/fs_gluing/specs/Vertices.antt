@@ -1,10 +1,7 @@
 -- The vertices of a surface: which corners gluing makes one point, and how often the directions go round there.
 use Rattle.std.specs.Prelude.{◌≡◌, ℕ, zero, suc, ◌⊎◌, List, [], ◌∷◌, Some}
-use Rattle.fs_ring.specs.Vector.{unit_vector}
-use Rattle.fs_ring.specs.Direction.{InSector}
-use Rattle.fs_quadratic.specs.Ring.{quadratic, IsPositive}
 use Rattle.fs_plane.specs.declared.corners.Corner.{Corner}
-use Rattle.fs_plane.specs.Vector.{vector_of, vector_neg}
+use Rattle.fs_plane.specs.Vector.{east, IsInSector}
 use Rattle.fs_gluing.specs.declared.surfaces.Side.{Side}
 use Rattle.fs_gluing.specs.Polygons.{at_side, all_sides}
 use Rattle.fs_gluing.specs.Surface.{GluedPolygons}
@@ -19,13 +16,13 @@ Turned polygons (suc n) c e = (next : Corner) × TurnsTo polygons c next × Turn
 abbrev pub AreOneVertex : List (List Side) → Corner → Corner → Type 0
 AreOneVertex polygons c e = (n : ℕ) × Turned polygons n c e
 
--- the corner's sector holds (1,0): it runs counterclockwise from the side that begins there, included, to the opposite of the side that ends there, excluded
+-- the corner's sector, which the sides that end and begin there bound, holds (1,0)
 pub record HoldsEast (s : GluedPolygons) (c : Corner) : Type 0 where
   pub before : Side
   pub after : Side
   pub ends : at_side s.polygons (side_before s.polygons c) ≡ Some before
   pub begins : at_side s.polygons c ≡ Some after
-  pub holds : InSector (quadratic s.d) (IsPositive s.d) (vector_of after.vector) (vector_of (vector_neg before.vector)) (unit_vector (quadratic s.d))
+  pub holds : IsInSector s.d after.vector before.vector east
 
 -- k of these corners have P
 abbrev pub IsCount : (Corner → Type 0) → List Corner → ℕ → Type 0

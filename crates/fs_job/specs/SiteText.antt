@@ -8,6 +8,7 @@ use Rattle.fs_plane.specs.declared.sites.Site.TheVariants.{Scale, Close, Corner,
 abbrev pub three_numbers : ℕ → ℕ → ℕ → List ℕ
 three_numbers i j p = codes " " ++ decimal i ++ codes " " ++ decimal j ++ codes " " ++ decimal p
 
+-- the name of the site, and its numbers in order
 abbrev pub site_text : Site → List ℕ
 site_text (Scale polygon side place) = codes "scale" ++ three_numbers polygon side place
 site_text (Close polygon side place) = codes "close" ++ three_numbers polygon side place

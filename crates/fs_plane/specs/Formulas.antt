@@ -32,7 +32,7 @@ norm_after before d a = dot_after before d a a
 abbrev pub is_above_zero : ℕ → Result Quadratic Place → Result Bool Place
 is_above_zero d computed = computed >>= (λ x. Ok (is_gt (sign d x)))
 
--- how a vector stands to the sector that begins at a vector, by the sign of their cross product: to the right not in it; on the line, if it is along; to the left, if the end is to the left of it
+-- by the sign of the cross product of a sector's start and a vector: to the right of the start it isn't in the sector; on the start's line the first test decides, to the left the second
 abbrev pub by_turn : Ordering → (along ends : Result Bool Place) → Result Bool Place
 by_turn Less along ends = Ok false
 by_turn Equal along ends = along

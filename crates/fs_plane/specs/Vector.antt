@@ -5,7 +5,7 @@ use Rattle.std.specs.declared.cmp.Ordering.{Ordering}
 use Rattle.std.specs.declared.cmp.Ordering.TheVariants.{Less, Equal, Greater}
 use Rattle.fs_ring.specs.Vector as plane
 use Rattle.fs_ring.specs.Direction.{InSector}
-use Rattle.fs_quadratic.specs.Ring.{Quadratic, quadratic, zero, add, neg, sign, IsPositive}
+use Rattle.fs_quadratic.specs.Ring.{Quadratic, quadratic, zero, one, add, neg, sign, IsPositive}
 use Rattle.fs_quadratic.specs.Width.{IsSmall}
 use Rattle.fs_plane.specs.declared.vector.V2.{V2}
 
@@ -15,6 +15,10 @@ vector_of a = record { x = a.x; y = a.y }
 
 abbrev pub vector_zero : V2
 vector_zero = record { x = zero; y = zero }
+
+-- (1, 0)
+abbrev pub east : V2
+east = record { x = one; y = zero }
 
 -- the sum, by parts
 abbrev pub vector_add : V2 → V2 → V2

@@ -1,4 +1,4 @@
-ghost use Rattle.std.specs.Prelude.{◌≡◌, ◌≤◌, ◌↔◌, IfOk, IsTrue};
+ghost use Rattle.std.specs.Prelude.{◌≡◌, ◌+◌, ◌<◌, ◌^◌, ◌↔◌, IfOk, IsTrue};
 ghost use Rattle.fs_plane.specs.Checked.{checked_product, checked_sum, checked_difference};
 ghost use Rattle.fs_plane.specs.Formulas.{cross_after, dot_after, norm_after, in_sector_after, is_above_zero};
 ghost use Rattle.fs_plane.specs.Vector.{IsSmallVector, IsInSector, cross, dot};
@@ -18,7 +18,7 @@ pub fn cross(field: Field, a: V2, b: V2) -> Result<Elem, Place>
 
 // The same behind so many other places.
 fn cross_after(before: u32, field: Field, a: V2, b: V2) -> Result<Elem, Place>
-    requires { before ≤ 1000 }
+    requires { before + 3 < 2 ^ 32 }
     ensures { result ≡ cross_after before field.d a b }
 {
     if a.x.is_small() && a.y.is_small() && b.x.is_small() && b.y.is_small() {
@@ -31,7 +31,7 @@ fn cross_after(before: u32, field: Field, a: V2, b: V2) -> Result<Elem, Place>
 // The same for vectors of any size.
 #[tactic(auto, unfolding(crate::specs::Formulas::cross_after))]
 fn cross_checked(before: u32, field: Field, a: V2, b: V2) -> Result<Elem, Place>
-    requires { before ≤ 1000 }
+    requires { before + 3 < 2 ^ 32 }
     ensures { result ≡ cross_after before field.d a b }
 {
     let left = product_at(before + 1, field, a.x, b.y)?;
@@ -49,7 +49,7 @@ pub fn dot(field: Field, a: V2, b: V2) -> Result<Elem, Place>
 
 // The same behind so many other places.
 fn dot_after(before: u32, field: Field, a: V2, b: V2) -> Result<Elem, Place>
-    requires { before ≤ 1000 }
+    requires { before + 3 < 2 ^ 32 }
     ensures { result ≡ dot_after before field.d a b }
 {
     if a.x.is_small() && a.y.is_small() && b.x.is_small() && b.y.is_small() {
@@ -62,7 +62,7 @@ fn dot_after(before: u32, field: Field, a: V2, b: V2) -> Result<Elem, Place>
 // The same for vectors of any size.
 #[tactic(auto, unfolding(crate::specs::Formulas::dot_after))]
 fn dot_checked(before: u32, field: Field, a: V2, b: V2) -> Result<Elem, Place>
-    requires { before ≤ 1000 }
+    requires { before + 3 < 2 ^ 32 }
     ensures { result ≡ dot_after before field.d a b }
 {
     let left = product_at(before + 1, field, a.x, b.x)?;
@@ -100,6 +100,7 @@ pub fn in_sector(field: Field, out: V2, incoming: V2, v: V2) -> Result<bool, Pla
 fn test_sector(field: Field, out: V2, incoming: V2, v: V2) -> Result<bool, Place>
     ensures { result ≡ in_sector_after 0 field.d out incoming v }
 {
+    // Both are used again below, and such a vector is copied by a `let` only.
     let start = out;
     let same = v;
     let turn = cross_after(0, field, start, same)?;

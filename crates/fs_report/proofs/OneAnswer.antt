@@ -11,7 +11,7 @@ use Rattle.fs_stratum.proofs.SomeList.{some_list}
 use Rattle.fs_stratum.proofs.SomeGenus.{genus_of_cones}
 use Rattle.fs_job.specs.declared.job.Command.{Command}
 use Rattle.fs_job.specs.declared.job.Command.TheVariants.{Check, Stratum}
-use Rattle.fs_report.specs.Area.{HasArea}
+use Rattle.fs_report.specs.Area.{AnswersArea}
 use Rattle.fs_report.specs.Orders.{AreOrders}
 use Rattle.fs_report.specs.Text.{Answers, AnswersStratum, whole, stopped, stratum_text, overflow_text}
 use Rattle.fs_report.proofs.TrueArea.{one_area, some_area}
@@ -52,7 +52,7 @@ one_stratum s m n p q surface (stopped site is text kind) (stopped site' is' tex
 some_stratum : (s : GluedPolygons) → IsSurface s → ((text : List ℕ) (partial : Bool) → ¬ AnswersStratum s text partial) → ⊥
 some_stratum s surface none = some_area s by_area
   where
-    by_area : (result : Result Fraction Site) → ¬ HasArea s result
+    by_area : (result : Result Fraction Site) → ¬ AnswersArea s result
     by_area (Err site) is = none _ _ (stopped site is refl refl)
     by_area (Ok area) is = some_list s surface (λ cones are.
         let g = genus_of_cones s surface cones are in

@@ -5,17 +5,17 @@ use Rattle.std.specs.Fmt.{decimal}
 use Rattle.std.proofs.lemmas.Bool.Decides.{eqb_tells}
 use Rattle.std.proofs.lemmas.List.{take_more}
 use Rattle.fs_stratum.specs.declared.cones.Cone.{Cone}
-use Rattle.fs_report.specs.Text.{commas, vertex_line, vertex_lines}
+use Rattle.fs_report.specs.Text.{with_commas, vertex_line, vertex_lines}
 
 -- a number behind others
-commas_behind : (m : ℕ) (ms : List ℕ) (n : ℕ) → commas ((m ∷ ms) ++ n ∷ []) ≡ commas (m ∷ ms) ++ (codes "," ++ decimal n)
+commas_behind : (m : ℕ) (ms : List ℕ) (n : ℕ) → with_commas ((m ∷ ms) ++ n ∷ []) ≡ with_commas (m ∷ ms) ++ (codes "," ++ decimal n)
 commas_behind m [] n = simp append_assoc
 commas_behind m (k ∷ ms) n =
     ap (λ (text : List ℕ). (decimal m ++ codes ",") ++ text) (commas_behind k ms n)
     ∙ simp append_assoc
 
 commas_more : (ms : List ℕ) (n : ℕ) (first : Bool) → (first ≡ true → ms ≡ []) → (first ≡ false → 0 < length ms)
-    → commas (ms ++ n ∷ []) ≡ commas ms ++ cond first (decimal n) (codes "," ++ decimal n)
+    → with_commas (ms ++ n ∷ []) ≡ with_commas ms ++ cond first (decimal n) (codes "," ++ decimal n)
 commas_more [] n true none some = refl
 commas_more [] n false none some = absurd (let h = some refl in omega arith)
 commas_more (m ∷ ms) n true none some = absurd (let h = none refl in cc)
@@ -28,8 +28,8 @@ some_taken (suc i) (n ∷ ns) i_not h = omega arith
 
 -- one number more of a list
 numbers_more : (numbers : List ℕ) (i d : ℕ) → i < length numbers
-    → commas (take (i + 1) numbers) ≡ commas (take i numbers) ++ cond (eqb i 0) (decimal (get_or numbers i d)) (codes "," ++ decimal (get_or numbers i d))
-numbers_more numbers i d h = ap commas (take_more numbers i d h) ∙ commas_more (take i numbers) (get_or numbers i d) (eqb i 0) none some
+    → with_commas (take (i + 1) numbers) ≡ with_commas (take i numbers) ++ cond (eqb i 0) (decimal (get_or numbers i d)) (codes "," ++ decimal (get_or numbers i d))
+numbers_more numbers i d h = ap with_commas (take_more numbers i d h) ∙ commas_more (take i numbers) (get_or numbers i d) (eqb i 0) none some
   where
     clash : {b : Bool} → b ≡ true → b ≡ false → ⊥
     clash e f = cc
@@ -46,8 +46,8 @@ numbers_more numbers i d h = ap commas (take_more numbers i d h) ∙ commas_more
       | inr other ↦ some_taken i numbers other.1 (omega arith)
     ]
 
-pub numbers_written : (numbers : List ℕ) (i d : ℕ) (text text' : List ℕ) → i < length numbers → text ≡ commas (take i numbers)
-    → text' ≡ text ++ cond (eqb i 0) (decimal (get_or numbers i d)) (codes "," ++ decimal (get_or numbers i d)) → text' ≡ commas (take (i + 1) numbers)
+pub numbers_written : (numbers : List ℕ) (i d : ℕ) (text text' : List ℕ) → i < length numbers → text ≡ with_commas (take i numbers)
+    → text' ≡ text ++ cond (eqb i 0) (decimal (get_or numbers i d)) (codes "," ++ decimal (get_or numbers i d)) → text' ≡ with_commas (take (i + 1) numbers)
 numbers_written numbers i d text text' h before more =
     more
     ∙ (ap (λ (bytes : List ℕ). bytes ++ cond (eqb i 0) (decimal (get_or numbers i d)) (codes "," ++ decimal (get_or numbers i d))) before

@@ -20,7 +20,7 @@ use Rattle.fs_plane.specs.declared.sites.Site.{Site}
 use Rattle.fs_plane.specs.declared.sites.Site.TheVariants.{AreaScale}
 use Rattle.fs_gluing.specs.Area.{twice_area}
 use Rattle.fs_gluing.specs.Surface.{GluedPolygons}
-use Rattle.fs_report.specs.Area.{true_area, half, half_over, one_over, InTrueSize, over_once, over_twice, exact, twice_area_after, HasArea, at_triangle, summed}
+use Rattle.fs_report.specs.Area.{true_area, half, half_over, one_over, InTrueSize, over_once, over_twice, exact, twice_area_after, AnswersArea, at_triangle, summed}
 
 -- ---- products by one over a number
 
@@ -132,7 +132,7 @@ module _ (d : ℕ) (twice : Quadratic) (den : ℕ) (half' inverse' : Fraction) (
 
 -- twice the area was computed, and brought to true size
 pub summed_up : (s : GluedPolygons) (d : ℕ) (twice : Quadratic) (den : ℤ) (result : Result Fraction Site) → Ok twice ≡ twice_area_after s → d ≡ s.d → twice ≡ twice_area s → den ≡ s.den
-    → InTrueSize d twice (unsigned_abs den) result → HasArea s result
+    → InTrueSize d twice (unsigned_abs den) result → AnswersArea s result
 summed_up s d twice den result ok same_d same_twice same_den size =
     summed (subst IsOk ok refl)
     (subst (λ (z : ℤ). InTrueSize s.d (twice_area s) (unsigned_abs z) result) same_den
@@ -159,7 +159,7 @@ one_size d twice den a b (exact first second is) (over_once not' is') = absurd (
 one_size d twice den a b (exact first second is) (over_twice first' not' is') = absurd (not' second)
 one_size d twice den a b (exact first second is) (exact first' second' is') = is ∙ sym is'
 
-pub one_area : (s : GluedPolygons) (a b : Result Fraction Site) → HasArea s a → HasArea s b → a ≡ b
+pub one_area : (s : GluedPolygons) (a b : Result Fraction Site) → AnswersArea s a → AnswersArea s b → a ≡ b
 one_area s a b (at_triangle site e is) (at_triangle site' e' is') = is ∙ (ap Err (same_err site site' (sym e ∙ e')) ∙ sym is')
 one_area s a b (at_triangle site e is) (summed ok size) = absurd (ok_or_err _ site e ok)
 one_area s a b (summed ok size) (at_triangle site e is) = absurd (ok_or_err _ site e ok)
@@ -170,7 +170,7 @@ one_area s a b (summed ok size) (summed ok' size') = one_size s.d (twice_area s)
 some_size : (d : ℕ) (twice : Quadratic) (den : ℕ) → ((result : Result Fraction Site) → ¬ InTrueSize d twice den result) → ⊥
 some_size d twice den none = none _ (over_once (λ first. none _ (over_twice first (λ second. none _ (exact first second refl)) refl)) refl)
 
-pub some_area : (s : GluedPolygons) → ((result : Result Fraction Site) → ¬ HasArea s result) → ⊥
+pub some_area : (s : GluedPolygons) → ((result : Result Fraction Site) → ¬ AnswersArea s result) → ⊥
 some_area s none = by_sum (twice_area_after s) refl
   where
     by_sum : (r : Result Quadratic Site) → twice_area_after s ≡ r → ⊥

@@ -12,10 +12,11 @@ use Rattle.fs_gluing.specs.Surface.{GluedPolygons}
 abbrev pub true_area : Quadratic → ℕ → Fraction
 true_area twice den = reduced twice (2 * (den * den))
 
--- half of a number, and one over a number
+-- half of a number
 abbrev pub half : Quadratic → Fraction
 half twice = reduced twice 2
 
+-- one over a number
 abbrev pub one_over : ℕ → Fraction
 one_over n = record { num = one; den = n }
 
@@ -34,6 +35,6 @@ abbrev pub twice_area_after : GluedPolygons → Result Quadratic Site
 twice_area_after s = sum_after s.d zero (triangles s)
 
 -- the area of a surface in true size, or the site where its computation leaves the width
-pub data HasArea (s : GluedPolygons) (result : Result Fraction Site) : Type 0 where
-  at_triangle : (site : Site) → twice_area_after s ≡ Err site → result ≡ Err site → HasArea s result
-  summed : IsOk (twice_area_after s) → InTrueSize s.d (twice_area s) (unsigned_abs s.den) result → HasArea s result
+pub data AnswersArea (s : GluedPolygons) (result : Result Fraction Site) : Type 0 where
+  at_triangle : (site : Site) → twice_area_after s ≡ Err site → result ≡ Err site → AnswersArea s result
+  summed : IsOk (twice_area_after s) → InTrueSize s.d (twice_area s) (unsigned_abs s.den) result → AnswersArea s result

@@ -13,7 +13,7 @@ use Rattle.fs_stratum.specs.Cones.{AreCones, IsGenus}
 use Rattle.fs_job.specs.declared.job.Command.{Command}
 use Rattle.fs_job.specs.declared.job.Command.TheVariants.{Check, Stratum}
 use Rattle.fs_job.specs.SiteText.{site_text}
-use Rattle.fs_report.specs.Area.{HasArea}
+use Rattle.fs_report.specs.Area.{AnswersArea}
 use Rattle.fs_report.specs.Orders.{AreOrders}
 
 -- a line feed
@@ -58,15 +58,16 @@ abbrev pub check_text : ℕ → ℕ → List ℕ
 check_text polygons sides = codes "check polygons " ++ decimal polygons ++ codes " sides " ++ decimal sides ++ end
 
 -- numbers with commas between them
-abbrev pub commas : List ℕ → List ℕ
-commas [] = []
-commas (n ∷ []) = decimal n
-commas (n ∷ (m ∷ ns)) = decimal n ++ codes "," ++ commas (m ∷ ns)
+abbrev pub with_commas : List ℕ → List ℕ
+with_commas [] = []
+with_commas (n ∷ []) = decimal n
+with_commas (n ∷ (m ∷ ns)) = decimal n ++ codes "," ++ with_commas (m ∷ ns)
 
 -- the line of a vertex: its least corner and its cone number
 abbrev pub vertex_line : Cone → List ℕ
 vertex_line cone = codes "vertex " ++ corner_text cone.first ++ codes " turns " ++ decimal cone.k ++ end
 
+-- those of vertices, in order
 abbrev pub vertex_lines : List Cone → List ℕ
 vertex_lines [] = []
 vertex_lines (cone ∷ cones) = vertex_line cone ++ vertex_lines cones
@@ -74,7 +75,7 @@ vertex_lines (cone ∷ cones) = vertex_line cone ++ vertex_lines cones
 -- the stratum, the genus, how many vertices there are, and the area
 abbrev pub stratum_line : List ℕ → ℕ → ℕ → Fraction → List ℕ
 stratum_line orders genus vertices area =
-    codes "stratum H(" ++ commas orders ++ codes ") genus " ++ decimal genus ++ codes " vertices " ++ decimal vertices ++ codes " area " ++ spelling area ++ end
+    codes "stratum H(" ++ with_commas orders ++ codes ") genus " ++ decimal genus ++ codes " vertices " ++ decimal vertices ++ codes " area " ++ spelling area ++ end
 
 -- that, and a line for each vertex
 abbrev pub stratum_text : List ℕ → ℕ → List Cone → Fraction → List ℕ
@@ -84,10 +85,10 @@ stratum_text orders genus cones area = stratum_line orders genus (length cones) 
 pub data AnswersStratum (s : GluedPolygons) (text : List ℕ) (partial : Bool) : Type 0 where
   -- its vertices with their cone numbers, their orders, its genus and its area
   whole : (cones : List Cone) → (orders : List ℕ) → (genus : ℕ) → (area : Fraction)
-      → AreCones s cones → AreOrders cones orders → IsGenus s (length cones) genus → HasArea s (Ok area)
+      → AreCones s cones → AreOrders cones orders → IsGenus s (length cones) genus → AnswersArea s (Ok area)
       → text ≡ stratum_text orders genus cones area → partial ≡ false → AnswersStratum s text partial
   -- the area leaves the width there
-  stopped : (site : Site) → HasArea s (Err site) → text ≡ overflow_text (codes "stratum") site → partial ≡ true → AnswersStratum s text partial
+  stopped : (site : Site) → AnswersArea s (Err site) → text ≡ overflow_text (codes "stratum") site → partial ≡ true → AnswersStratum s text partial
 
 -- what a command answers of a surface: this text, and whether it stands in the place of the whole answer
 abbrev pub Answers : GluedPolygons → Command → List ℕ → Bool → Type 0

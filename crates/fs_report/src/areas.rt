@@ -1,7 +1,7 @@
 ghost use Rattle.std.specs.Prelude.{◌≡◌, ◌<ℤ◌, pos, IfOk, IfErr, unsigned_abs};
 ghost use Rattle.fs_fraction.specs.Arithmetic.{product, ProductFits};
 ghost use Rattle.fs_plane.specs.declared.sites.Site.TheVariants.{AreaScale};
-ghost use Rattle.fs_report.specs.Area.{HasArea, InTrueSize};
+ghost use Rattle.fs_report.specs.Area.{AnswersArea, InTrueSize};
 
 use fs_fraction::{Frac, mul};
 use fs_gluing::Surface;
@@ -10,7 +10,7 @@ use fs_quadratic::{Elem, Field};
 
 // The area of a surface in true size, or the first site where it leaves the width.
 pub fn find_area(surface: &Surface) -> Result<Frac, Site>
-    ensures { HasArea surface.now result }
+    ensures { AnswersArea surface.now result }
 {
     let twice = surface.twice_area()?;
     in_true_size(surface.field(), twice, surface.den())

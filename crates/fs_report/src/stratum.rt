@@ -5,7 +5,7 @@ ghost use Rattle.fs_stratum.specs.declared.cones.Cone.{Cone};
 ghost use Rattle.fs_stratum.specs.Cones.{AreCones, IsGenus, HasGenus};
 ghost use Rattle.fs_gluing.specs.Surface.{GluedPolygons, IsSurface};
 ghost use Rattle.fs_report.specs.Orders.{AreOrders};
-ghost use Rattle.fs_report.specs.Text.{AnswersStratum, commas, stratum_line, stratum_text, vertex_line, vertex_lines};
+ghost use Rattle.fs_report.specs.Text.{AnswersStratum, with_commas, stratum_line, stratum_text, vertex_line, vertex_lines};
 
 use crate::answers::Answer;
 use crate::areas::find_area;
@@ -79,7 +79,7 @@ fn first_line(
 
 // The numbers with commas between them.
 fn with_commas(alloc: Global, numbers: &[u32]) -> Result<String, AllocError>
-    ensures { IfOk result (λ text. string_bytes text ≡ commas numbers.now) }
+    ensures { IfOk result (λ text. string_bytes text ≡ with_commas numbers.now) }
 {
     let mut text = String::new(alloc);
     for (i, number) in numbers.iter().enumerate() {

@@ -71,11 +71,11 @@ pub fn expect(
     Ok(())
 }
 
-// The status with which a line is answered.
+// The status that belongs to an answer of these lines.
 pub fn status_of(answer: &str) -> Status {
     if answer.starts_with("refused ") {
         Status::Refused
-    } else if answer.starts_with("build overflow ") || answer.starts_with("stratum overflow ") {
+    } else if answer.lines().any(|line| line.contains(" overflow ")) {
         Status::Partial
     } else {
         Status::Done

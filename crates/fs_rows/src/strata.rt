@@ -115,8 +115,9 @@ fn two_large_polygons(rt: HostRuntime) -> Result<(), Fail> {
 }
 
 // Areas that leave the width: the second triangle of a side of 13·(10^18 - 1); the third triangle of
-// a side of 9·(10^18 - 1), in the second polygon; and the sum of the squares of two numbers without
-// a common divisor, over the square of their product.
+// a side of 9·(10^18 - 1), in the second polygon; a first triangle, whose third corner is 22·(10^18 - 1)
+// from the first, by either product; and the sum of the squares of two numbers without a common
+// divisor, over the square of their product.
 #[test]
 fn wide_areas(rt: HostRuntime) -> Result<(), Fail> {
     for (lines, answer) in [
@@ -127,6 +128,14 @@ fn wide_areas(rt: HostRuntime) -> Result<(), Fail> {
         (
             "polygon 999999999999999999,0 1/9,999999999999999999 -999999999999999999,0 -1/9,-999999999999999999\npolygon 999999999999999999,0 1/9,999999999999999999 -999999999999999999,0 -1/9,-999999999999999999\nglue 0.0 1.2\nglue 1.0 0.2\nglue 0.1 1.3\nglue 1.1 0.3\n",
             "stratum overflow area 1 1 4\n",
+        ),
+        (
+            "polygon 999999999999999999,999999999999999999 1/11,999999999999999999 -999999999999999999,-999999999999999999 -1/11,-999999999999999999\nglue 0.0 0.2\nglue 0.1 0.3\n",
+            "stratum overflow area 0 1 1\n",
+        ),
+        (
+            "polygon -999999999999999999,999999999999999999 -999999999999999999,1/11 999999999999999999,-999999999999999999 999999999999999999,-1/11\nglue 0.0 0.2\nglue 0.1 0.3\n",
+            "stratum overflow area 0 1 2\n",
         ),
         (
             "polygon 1/5000000000,1/4999999999 -1/4999999999,1/5000000000 -1/5000000000,-1/4999999999 1/4999999999,-1/5000000000\nglue 0.0 0.2\nglue 0.1 0.3\n",

@@ -3,9 +3,10 @@ use Rattle.std.proofs.Common.{◌≡◌, ◌⊎◌, inl, inr, ℕ, suc, ◌+◌,
 use Rattle.std.proofs.lemmas.Bool.{cases_Bool}
 use Rattle.fs_plane.specs.declared.corners.Corner.{Corner}
 use Rattle.fs_gluing.specs.Vertices.{IsCount}
-use Rattle.fs_stratum.proofs.Lists.{IsIn, IsApart, tally, one_if}
+use Rattle.fs_cycles.specs.Cycles.{IsIn, IsDistinct}
+use Rattle.fs_stratum.proofs.Lists.{tally, one_if}
 
-pub count_same : (P Q : Corner → Type 0) (xs : List Corner) (k : ℕ) → ((c : Corner) → IsIn xs c → P c → Q c) → ((c : Corner) → IsIn xs c → Q c → P c) → IsCount P xs k → IsCount Q xs k
+pub count_same : (P Q : Corner → Type 0) (xs : List Corner) (k : ℕ) → ((c : Corner) → IsIn c xs → P c → Q c) → ((c : Corner) → IsIn c xs → Q c → P c) → IsCount P xs k → IsCount Q xs k
 count_same P Q [] k f g h = h
 count_same P Q (x ∷ xs) k f g h = elim h [
   | inl a ↦ inl (f x (inl refl) a.0, (a.1.0, a.1.1, count_same P Q xs a.1.0 (λ c i. f c (inr i)) (λ c i. g c (inr i)) a.1.2))
@@ -13,18 +14,18 @@ count_same P Q (x ∷ xs) k f g h = elim h [
 ]
 
 -- one more has it
-pub count_more : (P Q : Corner → Type 0) (xs : List Corner) (x : Corner) (k : ℕ) → IsApart xs → IsIn xs x → ¬ P x → Q x
+pub count_more : (P Q : Corner → Type 0) (xs : List Corner) (x : Corner) (k : ℕ) → IsDistinct xs → IsIn x xs → ¬ P x → Q x
     → ((c : Corner) → ¬ (x ≡ c) → P c → Q c) → ((c : Corner) → ¬ (x ≡ c) → Q c → P c) → IsCount P xs k → IsCount Q xs (suc k)
 count_more P Q [] x k apart i n q f g h = absurd i
 count_more P Q (y ∷ xs) x k apart (inl e) n q f g h = elim h [
-  | inl a ↦ absurd (n (subst P e a.0))
+  | inl a ↦ absurd (n (subst P (sym e) a.0))
   | inr b ↦ inl (
-    subst Q (sym e) q,
-    (k, refl, count_same P Q xs k (λ c i. f c (λ same. apart.0 (subst (IsIn xs) (sym (e ∙ same)) i))) (λ c i. g c (λ same. apart.0 (subst (IsIn xs) (sym (e ∙ same)) i))) b.1),
+    subst Q e q,
+    (k, refl, count_same P Q xs k (λ c i. f c (λ same. apart.0 c i (sym e ∙ same))) (λ c i. g c (λ same. apart.0 c i (sym e ∙ same))) b.1),
   )
 ]
 count_more P Q (y ∷ xs) x k apart (inr i) n q f g h =
-    let other : ¬ (x ≡ y) = λ same. apart.0 (subst (IsIn xs) same i) in
+    let other : ¬ (x ≡ y) = λ same. apart.0 x i (sym same) in
     elim h [
       | inl a ↦ inl (f y other a.0, (suc a.1.0, ap (λ n. suc n) a.1.1, count_more P Q xs x a.1.0 apart.1 i n q f g a.1.2))
       | inr b ↦ inr ((λ r. b.0 (g y other r)), count_more P Q xs x k apart.1 i n q f g b.1)
@@ -37,16 +38,16 @@ count_at_most P (x ∷ xs) k h = elim h [
   | inr b ↦ let l = count_at_most P xs k b.1 in omega arith
 ]
 
-pub count_none : (P : Corner → Type 0) (xs : List Corner) → ((c : Corner) → IsIn xs c → ¬ P c) → IsCount P xs 0
+pub count_none : (P : Corner → Type 0) (xs : List Corner) → ((c : Corner) → IsIn c xs → ¬ P c) → IsCount P xs 0
 count_none P [] n = refl
 count_none P (x ∷ xs) n = inr (n x (inl refl), count_none P xs (λ c i. n c (inr i)))
 
 -- where the count is 0, none has it
-pub count_zero : (P : Corner → Type 0) (xs : List Corner) (c : Corner) → IsCount P xs 0 → IsIn xs c → ¬ P c
+pub count_zero : (P : Corner → Type 0) (xs : List Corner) (c : Corner) → IsCount P xs 0 → IsIn c xs → ¬ P c
 count_zero P [] c h i p = i
 count_zero P (x ∷ xs) c h i p = elim h [
   | inl a ↦ let e = a.1.1 in absurd (omega arith)
-  | inr b ↦ elim i [ inl e ↦ b.0 (subst P (sym e) p) | inr j ↦ count_zero P xs c b.1 j p ]
+  | inr b ↦ elim i [ inl e ↦ b.0 (subst P e p) | inr j ↦ count_zero P xs c b.1 j p ]
 ]
 
 -- the counts of two that exclude each other
@@ -65,7 +66,7 @@ count_join P Q S (x ∷ xs) m n out f g r h k = elim h [
 ]
 
 -- a count by a test
-pub count-tally : (P : Corner → Type 0) (q : Corner → Bool) (xs : List Corner) (k : ℕ) → ((c : Corner) → IsIn xs c → P c → q c ≡ true) → ((c : Corner) → IsIn xs c → q c ≡ true → P c)
+pub count-tally : (P : Corner → Type 0) (q : Corner → Bool) (xs : List Corner) (k : ℕ) → ((c : Corner) → IsIn c xs → P c → q c ≡ true) → ((c : Corner) → IsIn c xs → q c ≡ true → P c)
     → IsCount P xs k → k ≡ tally q xs
 count-tally P q [] k f g h = h
 count-tally P q (x ∷ xs) k f g h = elim h [

@@ -1,18 +1,19 @@
 -- Which corners of a polygon hold (1,0), by the signs of the sides before and after them.
-use Rattle.std.proofs.Common.{◌≡◌, ℕ, ◌+◌, Bool, true, false, not, ◌&&◌, refl, ◌∙◌}
+use Rattle.std.proofs.Common.{◌≡◌, ℕ, ◌+◌, Bool, true, false, not, ◌&&◌, ◌⊎◌, inl, inr, refl, sym, ap, ◌∙◌}
 use Rattle.std.specs.Ordering.{is_gt, ordering_reverse}
 use Rattle.std.specs.declared.cmp.Ordering.{Ordering}
 use Rattle.std.specs.declared.cmp.Ordering.TheVariants.{Less, Equal, Greater}
 use Rattle.fs_ring.specs.Vector.{unit_vector}
-use Rattle.fs_ring.specs.Direction.{InSector, at_start, inside}
+use Rattle.fs_ring.specs.Direction.{IsAlong, InSector, at_start, inside}
 use Rattle.fs_quadratic.specs.Radicand.{IsRadicand}
 use Rattle.fs_quadratic.specs.Ring.{zero as nil, quadratic, IsPositive, sign}
+use Rattle.fs_quadratic.proofs.Excess.{sign-positive_mul}
 use Rattle.fs_quadratic.proofs.Laws.{field_order}
 use Rattle.fs_quadratic.proofs.SquareRoot.{radicand_no_square}
 use Rattle.fs_quadratic.proofs.Signs.{sign-positive, sign-negative, sign-zero, sign-neg, positive_of_sign, zero_of_sign, negative_of_sign}
 use Rattle.fs_plane.specs.declared.vector.V2.{V2}
-use Rattle.fs_plane.specs.Vector.{vector_of, vector_neg, cross, is_upper, upper_by_signs, is_raised, raised_by_signs}
-use Rattle.fs_gluing.specs.Convex.{is_rise}
+use Rattle.fs_plane.specs.Vector.{vector_of, vector_neg, cross, dot, norm, is_upper, upper_by_signs, is_raised, raised_by_signs}
+use Rattle.fs_gluing.specs.Convex.{Bend, TurnsLeft, is_rise}
 use Rattle.fs_stratum.proofs.Lists.{one_if}
 use Rattle.fs_stratum.proofs.Turns as turns
 
@@ -59,6 +60,14 @@ counted_by_signs Equal Less Greater ah t = let wrong = t.from_west refl refl in 
 counted_by_signs Equal Less Less ah t = refl
 counted_by_signs Equal Less Equal ah t = let wrong = t.from_west refl refl in cc
 
+-- straight on, nothing changes
+counted_straight : (v h : Ordering) → one_if (held_by_signs v h v h) + one_if (rise_by_signs v h v h) + one_if (east_by_signs v h) ≡ one_if (not (raised_by_signs v h)) + one_if (east_by_signs v h)
+counted_straight Greater h = refl
+counted_straight Less h = refl
+counted_straight Equal Greater = refl
+counted_straight Equal Equal = refl
+counted_straight Equal Less = refl
+
 -- ---- the same of vectors
 
 abbrev pub is_east : ℕ → V2 → Bool
@@ -67,6 +76,10 @@ is_east d v = east_by_signs (sign d v.y) (sign d v.x)
 -- neither the side before nor the side after is raised
 abbrev pub is_held : ℕ → V2 → V2 → Bool
 is_held d before after = not (is_raised d before) && not (is_raised d after)
+
+-- the walk turns left there, or goes straight on
+abbrev pub GoesOn : ℕ → Bend → Type 0
+GoesOn d bend = TurnsLeft d bend ⊎ IsAlong (quadratic d) (IsPositive d) (vector_of bend.before) (vector_of bend.after)
 
 module _ {d : ℕ} (radicand : IsRadicand d) where
   -- a vector off zero is raised exactly where its opposite isn't
@@ -96,13 +109,35 @@ module _ {d : ℕ} (radicand : IsRadicand d) where
           to_zero = λ e f. turns.after-ne-zero L b a left (zero_of_sign n after.y e) (zero_of_sign n after.x f);
         }
 
-    -- held corners, rises, and the sides that aren't raised
-    pub counted : one_if (is_held d before after) + one_if (is_rise d (record { before = before; after = after })) + one_if (is_east d before)
-        ≡ one_if (not (is_raised d before)) + one_if (is_east d after)
-    counted =
-        (λ i. one_if (is_held d before after) + one_if (upper_by_signs (sign-neg d before.y i) (sign-neg d before.x i) && is_upper d after) + one_if (is_east d before))
-        ∙ counted_by_signs (sign d before.y) (sign d before.x) (sign d after.y) (sign d after.x) left_turn
+  -- ---- from side to side: held corners, rises, and the sides that aren't raised
 
+  -- what is counted where the walk turns left from `before` to `after`, or goes straight on
+  pub counted : (before after : V2) → GoesOn d (record { before = before; after = after })
+      → one_if (is_held d before after) + one_if (is_rise d (record { before = before; after = after })) + one_if (is_east d before) ≡ one_if (not (is_raised d before)) + one_if (is_east d after)
+  counted before after on =
+      (λ i. one_if (is_held d before after) + one_if (upper_by_signs (sign-neg d before.y i) (sign-neg d before.x i) && is_upper d after) + one_if (is_east d before))
+      ∙ elim on [
+        | inl left ↦ counted_by_signs (sign d before.y) (sign d before.x) (sign d after.y) (sign d after.x) (left_turn before after left)
+        | inr along ↦ straight along
+      ]
+    where
+      straight : IsAlong (quadratic d) (IsPositive d) (vector_of before) (vector_of after)
+          → one_if (is_held d before after) + one_if (rise_by_signs (sign d before.y) (sign d before.x) (sign d after.y) (sign d after.x)) + one_if (is_east d before)
+          ≡ one_if (not (is_raised d before)) + one_if (is_east d after)
+      straight along =
+          let n = radicand_no_square radicand in
+          let L = field_order radicand in
+          let b = vector_of before in
+          let a = vector_of after in
+          let up = turns.along_norm L b a along in
+          let same_y = sym (sign-positive_mul n (norm d before) after.y up) ∙ (ap (sign d) (turns.along_y L b a along) ∙ sign-positive_mul n (dot d before after) before.y along.same_way) in
+          let same_x = sym (sign-positive_mul n (norm d before) after.x up) ∙ (ap (sign d) (turns.along_x L b a along) ∙ sign-positive_mul n (dot d before after) before.x along.same_way) in
+          (λ i. one_if (held_by_signs (sign d before.y) (sign d before.x) (same_y i) (same_x i))
+          + one_if (rise_by_signs (sign d before.y) (sign d before.x) (same_y i) (same_x i)) + one_if (is_east d before))
+          ∙ (counted_straight (sign d before.y) (sign d before.x)
+          ∙ (λ i. one_if (not (is_raised d before)) + one_if (east_by_signs (sym same_y i) (sym same_x i))))
+
+  module _ (before after : V2) (left : IsPositive d (cross d before after)) where
     abbrev Holds : Type 0
     Holds = InSector (quadratic d) (IsPositive d) (vector_of after) (vector_of (vector_neg before)) (unit_vector (quadratic d))
 
@@ -121,7 +156,7 @@ module _ {d : ℕ} (radicand : IsRadicand d) where
 
     -- the corner holds (1,0) where neither is raised
     pub holds_from_test : is_held d before after ≡ true → Holds
-    holds_from_test h = go (sign d before.y) (sign d before.x) (sign d after.y) (sign d after.x) refl refl refl refl left_turn h
+    holds_from_test h = go (sign d before.y) (sign d before.x) (sign d after.y) (sign d after.x) refl refl refl refl (left_turn before after left) h
       where
         go : (bv bh av ah : Ordering) → sign d before.y ≡ bv → sign d before.x ≡ bh → sign d after.y ≡ av → sign d after.x ≡ ah → IsLeftTurn bv bh av ah → held_by_signs bv bh av ah ≡ true → Holds
         go Greater bh av ah p q r s t h = cc
@@ -145,7 +180,7 @@ module _ {d : ℕ} (radicand : IsRadicand d) where
         let L = field_order radicand in
         let v = sign-zero d after.y (turns.along_axis_flat L (unit_vector (quadratic d)) refl L.one_positive (vector_of after) h) in
         let x = sign-positive d after.x (turns.along_axis_ahead L (unit_vector (quadratic d)) refl L.one_positive (vector_of after) h) in
-        test_by Less (sign d before.x) Equal Greater (left_turn.to_east v x) refl v x refl
+        test_by Less (sign d before.x) Equal Greater ((left_turn before after left).to_east v x) refl v x refl
     test_from_holds (inside p q) =
         let L = field_order radicand in
         test_by Less (sign d before.x) Less (sign d after.x)

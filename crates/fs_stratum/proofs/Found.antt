@@ -1,8 +1,7 @@
 -- The vertices by their least corners, as the corners are gone through in their order.
-use Rattle.std.proofs.Common.{◌≡◌, ◌⊎◌, inl, inr, ℕ, ◌+◌, ◌<◌, ◌≤◌, Bool, true, false, List, [], ◌∷◌, ◌++◌, length, map, sum_by, sym, ap, ◌∙◌, refl, subst, arith}
+use Rattle.std.proofs.Common.{◌≡◌, ◌⊎◌, inl, inr, ℕ, ◌+◌, ◌<◌, Bool, true, false, List, [], ◌∷◌, ◌++◌, length, map, sym, ap, ◌∙◌, refl, subst, arith}
 use Rattle.std.proofs.lemmas.Bool.{cases_eq, cases_order, cases_Bool}
 use Rattle.std.proofs.lemmas.List.Elements.{Contains-append_left, Contains-push, Contains-push_cases}
-use Rattle.std.proofs.lemmas.List.Sums.{sum_by_push}
 use Rattle.std.specs.Bool.{IsTrue}
 use Rattle.std.specs.Cmp.{nat_cmp_is}
 use Rattle.std.specs.Ordering.{nat_cmp, ordering_then}
@@ -15,20 +14,18 @@ use Rattle.fs_gluing.proofs.Checks.{All-weaker}
 use Rattle.fs_plane.specs.declared.corners.Corner.{Corner}
 use Rattle.fs_gluing.specs.declared.surfaces.Side.{Side}
 use Rattle.fs_gluing.specs.Gluing.{corner_cmp}
-use Rattle.fs_gluing.specs.Polygons.{HasSide, all_sides}
+use Rattle.fs_gluing.specs.Polygons.{HasSide}
 use Rattle.fs_gluing.specs.Surface.{GluedPolygons, IsSurface}
-use Rattle.fs_gluing.specs.Vertices.{AreOneVertex, HoldsEast, IsCount, IsConeNumber}
+use Rattle.fs_gluing.specs.Vertices.{AreOneVertex, IsConeNumber}
 use Rattle.fs_gluing.proofs.Corners.{stands_in}
 use Rattle.fs_stratum.specs.declared.cones.Cone.{Cone}
 use Rattle.fs_stratum.specs.Cones.{IsCone, AreAscending, AreCones}
 use Rattle.fs_stratum.specs.Marks.{is_marked, AreUnmarked, MarksVertex}
 use Rattle.fs_stratum.specs.Found.{AreFoundBefore}
 use Rattle.fs_stratum.proofs.Blank.{within_by}
-use Rattle.fs_stratum.proofs.Sides.{corner, corner_eq, some_of_inside, all_sides_in}
+use Rattle.fs_stratum.proofs.Sides.{corner, corner_eq, some_of_inside}
 use Rattle.fs_stratum.proofs.Orbits.{has_one_vertex, one_vertex_self, one_vertex_trans, one_vertex_comm}
 use Rattle.fs_stratum.proofs.Rays.{value_of}
-use Rattle.fs_stratum.proofs.Counts.{count_same, count_none, count_join}
-use Rattle.fs_stratum.proofs.Positive.{cone_number_positive}
 use Rattle.fs_stratum.proofs.Rounds.{not_both}
 
 -- ---- the order of corners
@@ -92,19 +89,18 @@ ascending_push (x ∷ []) cone h a = (a.0, tt)
 ascending_push (x ∷ (y ∷ cones)) cone h a = (h.0, ascending_push (y ∷ cones) cone h.1 a.1)
 
 module _ (s : GluedPolygons) where
-  abbrev FoundIn : List Cone → Corner → Type 0
-  FoundIn cones e = (cone : Cone) × Contains cones cone × AreOneVertex s.polygons cone.first e
+  -- the corner is of one of these vertices
+  abbrev pub IsListed : List Cone → Corner → Type 0
+  IsListed cones e = (cone : Cone) × Contains cones cone × AreOneVertex s.polygons cone.first e
 
   pub found_none : (marks : List (List Bool)) → AreUnmarked s.polygons marks → AreFoundBefore s (corner 0 0) marks []
   found_none marks u = record {
     covers = u.covers;
     each = tt;
-    positive = tt;
     ascending = tt;
     earlier = tt;
     marked = λ e. ((λ h. absurd (not_both h (u.none e))), (λ h. let l = h.1.1 in absurd (omega arith)));
     passed = λ e has h. elim (of_less e (corner 0 0) h) [ inl l ↦ absurd (omega arith) | inr k ↦ let l = k.1 in absurd (omega arith) ];
-    total = count_none _ (all_sides s.polygons) (λ e i p. not_both p.0 (u.none e));
   }
 
   pub found_same : (c : Corner) {marks more : List (List Bool)} {cones others : List Cone} → more ≡ marks → others ≡ cones → AreFoundBefore s c marks cones → AreFoundBefore s c more others
@@ -114,12 +110,10 @@ module _ (s : GluedPolygons) where
   found_seen i j marks cones f seen = record {
     covers = f.covers;
     each = f.each;
-    positive = f.positive;
     ascending = f.ascending;
     earlier = All-weaker (λ c. corner_cmp c.first (corner i j) ≡ Less) (λ c. corner_cmp c.first (corner i (j + 1)) ≡ Less) (λ c. to_next c.first i j) cones f.earlier;
     marked = f.marked;
     passed = λ e has h. elim (next_cases e i j h) [ inl l ↦ f.passed e has l | inr same ↦ ap (is_marked marks) (sym same) ∙ seen ];
-    total = f.total;
   }
 
   pub found_row : (i n : ℕ) (marks : List (List Bool)) (cones : List Cone) → AreFoundBefore s (corner i n) marks cones → IfSome (slice_get s.polygons i) (λ polygon. n ≡ length polygon)
@@ -127,7 +121,6 @@ module _ (s : GluedPolygons) where
   found_row i n marks cones f is = record {
     covers = f.covers;
     each = f.each;
-    positive = f.positive;
     ascending = f.ascending;
     earlier = All-weaker (λ c. corner_cmp c.first (corner i n) ≡ Less) (λ c. corner_cmp c.first (corner (i + 1) 0) ≡ Less) (λ c. to_row c.first i n) cones f.earlier;
     marked = f.marked;
@@ -142,7 +135,6 @@ module _ (s : GluedPolygons) where
       ]
       | inr k ↦ let l = k.1 in absurd (omega arith)
     ]));
-    total = f.total;
   }
 
   pub has_in_row : (i j n : ℕ) → i < length s.polygons → IfSome (slice_get s.polygons i) (λ polygon. n ≡ length polygon) → j < n → HasSide s.polygons (corner i j)
@@ -152,7 +144,7 @@ module _ (s : GluedPolygons) where
       subst (λ o. IsSome (option_and_then (λ (polygon : List Side). slice_get polygon j) o)) (sym r.is) (some_of_inside r.value j (omega arith))
 
   module _ (surface : IsSurface s) where
-    pub fresh_of_unmarked : (c : Corner) (marks : List (List Bool)) (cones : List Cone) → HasSide s.polygons c → ((e : Corner) → (IsTrue (is_marked marks e) → FoundIn cones e) × (FoundIn cones e → IsTrue (is_marked marks e)))
+    pub fresh_of_unmarked : (c : Corner) (marks : List (List Bool)) (cones : List Cone) → HasSide s.polygons c → ((e : Corner) → (IsTrue (is_marked marks e) → IsListed cones e) × (IsListed cones e → IsTrue (is_marked marks e)))
         → is_marked marks c ≡ false → (e : Corner) → AreOneVertex s.polygons c e → is_marked marks e ≡ false
     fresh_of_unmarked c marks cones has marked free e o = elim (cases_Bool (is_marked marks e)) [
       | inl h ↦
@@ -178,7 +170,6 @@ module _ (s : GluedPolygons) where
             },
             tt,
           );
-          positive = All-append (λ c. 1 ≤ c.k) cones (cone ∷ []) f.positive (cone_number_positive s surface c k has number, tt);
           ascending = ascending_push cones cone f.ascending f.earlier;
           earlier = All-append (λ x. corner_cmp x.first (corner i (j + 1)) ≡ Less) cones (cone ∷ [])
               (All-weaker (λ x. corner_cmp x.first (corner i j) ≡ Less) (λ x. corner_cmp x.first (corner i (j + 1)) ≡ Less) (λ x. to_next x.first i j) cones f.earlier) (here_next i j, tt);
@@ -196,11 +187,6 @@ module _ (s : GluedPolygons) where
             | inl before ↦ kept e (f.passed e h before)
             | inr same ↦ (m.marked e).1 (inr (subst (AreOneVertex s.polygons c) same (one_vertex_self s.polygons c)))
           ];
-          total = subst (IsCount (λ e. IsTrue (is_marked more e) × HoldsEast s e) (all_sides s.polygons)) (sym (sum_by_push (λ (x : Cone). x.k) cones cone))
-              (count_join (λ e. IsTrue (is_marked marks e) × HoldsEast s e) (λ e. AreOneVertex s.polygons c e × HoldsEast s e) (λ e. IsTrue (is_marked more e) × HoldsEast s e)
-              (all_sides s.polygons) (sum_by (λ (x : Cone). x.k) cones) k
-              (λ e p q. not_both p.0 (fresh e q.0)) (λ e p. (kept e p.0, p.1)) (λ e q. ((m.marked e).1 (inr q.0), q.1))
-              (λ e r. elim ((m.marked e).0 r.0) [ inl old ↦ inl (old, r.1) | inr o ↦ inr (o, r.1) ]) f.total number);
         }
 
   -- ---- past the last polygon
@@ -214,7 +200,3 @@ module _ (s : GluedPolygons) where
 
     pub found_all : AreCones s cones
     found_all = record { each = f.each; ascending = f.ascending; all = λ c has. (f.marked c).0 (all_marked c has) }
-
-    -- each corner that holds (1,0) is counted at its vertex
-    pub found_total : IsCount (HoldsEast s) (all_sides s.polygons) (sum_by (λ cone. cone.k) cones)
-    found_total = count_same (λ e. IsTrue (is_marked marks e) × HoldsEast s e) (HoldsEast s) (all_sides s.polygons) _ (λ e i p. p.1) (λ e i h. (all_marked e (all_sides_in s.polygons e i), h)) f.total

@@ -1,7 +1,6 @@
 -- A surface has one list of vertices, and one genus for their number.
 use Rattle.std.proofs.Common.{◌≡◌, ◌⊎◌, inl, inr, ℕ, suc, List, [], ◌∷◌, sym, ap, ◌∙◌, refl, subst, arith}
 use Rattle.std.proofs.lemmas.Bool.{cases_order}
-use Rattle.std.specs.List.{AllByRecursion}
 use Rattle.std.specs.declared.cmp.Ordering.TheVariants.{Less}
 use Rattle.fs_cycles.specs.Cycles.{IsIn}
 use Rattle.fs_cycles.proofs.Lists.{in_of_contains, in_map}
@@ -14,7 +13,7 @@ use Rattle.fs_stratum.specs.Cones.{IsCone, AreCones, AreAscending, IsGenus}
 use Rattle.fs_stratum.proofs.Sides.{corner_eq}
 use Rattle.fs_stratum.proofs.Orbits.{one_vertex_comm}
 use Rattle.fs_stratum.proofs.Found.{less_of, of_less}
-use Rattle.fs_stratum.proofs.Parity.{less_trans, firsts, ascending_tail, ascending_less}
+use Rattle.fs_stratum.proofs.Parity.{less_trans, firsts, ascending_tail, ascending_less, cone_at}
 
 -- ---- the order of corners is total
 
@@ -96,16 +95,12 @@ module _ (s : GluedPolygons) (surface : IsSurface s) where
       let number : x.k ≡ y.k = count_one _ _ x.k y.k p.number (subst (λ c. IsConeNumber s c y.k) (sym first) q.number) in
       λ i. record { first = first i; k = number i }
 
-  pub cone_at : (cones : List Cone) (c : Cone) → AllByRecursion (IsCone s) cones → IsIn c cones → IsCone s c
-  cone_at [] c all i = absurd i
-  cone_at (x ∷ cones) c all i = elim i [ inl e ↦ subst (IsCone s) (sym e) all.0 | inr j ↦ cone_at cones c all.1 j ]
-
   listed_too : (xs ys : List Cone) → AreCones s xs → AreCones s ys → (c : Cone) → IsIn c xs → IsIn c ys
   listed_too xs ys a b c i =
-      let p = cone_at xs c a.each i in
+      let p = cone_at s surface xs c a.each i in
       let found = b.all c.first p.there in
       let j = in_of_contains found.0 ys found.1 in
-      subst (λ (x : Cone). IsIn x ys) (one_cone found.0 c (cone_at ys found.0 b.each j) p found.2) j
+      subst (λ (x : Cone). IsIn x ys) (one_cone found.0 c (cone_at s surface ys found.0 b.each j) p found.2) j
 
 pub one_list : (s : GluedPolygons) → IsSurface s → (xs ys : List Cone) → AreCones s xs → AreCones s ys → xs ≡ ys
 one_list s surface xs ys a b = one_ascending xs ys a.ascending b.ascending (listed_too s surface xs ys a b) (listed_too s surface ys xs b a)

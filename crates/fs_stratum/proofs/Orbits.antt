@@ -1,14 +1,15 @@
 -- Turning round a vertex comes back.
-use Rattle.std.proofs.Common.{◌≡◌, ℕ, zero, suc, ◌+◌, Option, Some, None, List, length, sym, ap, ◌∙◌, refl, subst, arith}
+use Rattle.std.proofs.Common.{◌≡◌, ℕ, zero, suc, ◌+◌, Option, Some, None, List, sym, ap, ◌∙◌, refl, subst, arith}
 use Rattle.std.specs.Option.{IsSome}
+use Rattle.fs_cycles.specs.Cycles.{Permutes, iterate, LeadsTo}
+use Rattle.fs_cycles.proofs.Iterates.{returns, leads_symm, leads_in}
 use Rattle.fs_plane.specs.declared.corners.Corner.{Corner}
 use Rattle.fs_gluing.specs.declared.surfaces.Side.{Side}
 use Rattle.fs_gluing.specs.Polygons.{at_side, HasSide, all_sides}
 use Rattle.fs_gluing.specs.Turning.{TurnsTo, side_before}
 use Rattle.fs_gluing.specs.Vertices.{Turned, AreOneVertex}
 use Rattle.fs_gluing.proofs.Corners.{AreGlued, has_before, turn_there, turn_one_to_one}
-use Rattle.fs_stratum.proofs.Lists.{Repeats, repeats}
-use Rattle.fs_stratum.proofs.Sides.{same_corner, in_all_sides}
+use Rattle.fs_stratum.proofs.Sides.{same_corner, in_all_sides, all_sides_in}
 
 -- the partner of a side, where it has one
 abbrev pub partner_or : Corner → Option Side → Corner
@@ -31,16 +32,14 @@ turns_next polygons c h = turns_by polygons c (at_side polygons (side_before pol
 
 -- the corner n turns ahead
 abbrev pub ahead : List (List Side) → ℕ → Corner → Corner
-ahead polygons zero c = c
-ahead polygons (suc n) c = ahead polygons n (next polygons c)
+ahead polygons n c = iterate (next polygons) n c
 
 pub ahead_is : (polygons : List (List Side)) (n : ℕ) (c e : Corner) → Turned polygons n c e → e ≡ ahead polygons n c
 ahead_is polygons zero c e h = sym h
 ahead_is polygons (suc n) c e (mid, t, h) = ahead_is polygons n mid e h ∙ ap (ahead polygons n) (next_is polygons c mid t)
 
-pub ahead-add : (polygons : List (List Side)) (k i : ℕ) (c : Corner) → ahead polygons (k + i) c ≡ ahead polygons i (ahead polygons k c)
-ahead-add polygons zero i c = let e : 0 + i ≡ i = omega arith in ap (λ n. ahead polygons n c) e
-ahead-add polygons (suc k) i c = let e : suc k + i ≡ suc (k + i) = omega arith in ap (λ n. ahead polygons n c) e ∙ ahead-add polygons k i (next polygons c)
+pub leads_of : (polygons : List (List Side)) (c e : Corner) → AreOneVertex polygons c e → LeadsTo (next polygons) c e
+leads_of polygons c e (n, t) = (n, sym (ahead_is polygons n c e t))
 
 turned_append : (polygons : List (List Side)) (n m : ℕ) (c e f : Corner) → Turned polygons n c e → Turned polygons m e f → Turned polygons (n + m) c f
 turned_append polygons zero m c e f h k = let same : m ≡ 0 + m = omega arith in subst (λ n. Turned polygons n c f) same (subst (λ x. Turned polygons m x f) (sym h) k)
@@ -69,38 +68,27 @@ module _ (polygons : List (List Side)) (glued : AreGlued polygons) where
   pub one_vertex_next : (c e : Corner) → HasSide polygons e → AreOneVertex polygons c e → AreOneVertex polygons c (next polygons e)
   one_vertex_next c e h k = one_vertex_trans polygons c e (next polygons e) k (1, (next polygons e, turns_next polygons e h, refl))
 
-  pub has_one_vertex : (c e : Corner) → HasSide polygons c → AreOneVertex polygons c e → HasSide polygons e
-  has_one_vertex c e h k = subst (HasSide polygons) (sym (ahead_is polygons k.0 c e k.1)) (has_ahead k.0 c h)
-
   -- turning is one to one
-  pub next_one_to_one : (c e : Corner) → HasSide polygons c → HasSide polygons e → next polygons c ≡ next polygons e → c ≡ e
+  next_one_to_one : (c e : Corner) → HasSide polygons c → HasSide polygons e → next polygons c ≡ next polygons e → c ≡ e
   next_one_to_one c e h k same =
       turn_one_to_one polygons e c (next polygons e) glued k h (turns_next polygons e k) (subst (TurnsTo polygons c) same (turns_next polygons c h))
 
-  ahead_one_to_one : (n : ℕ) (c e : Corner) → HasSide polygons c → HasSide polygons e → ahead polygons n c ≡ ahead polygons n e → c ≡ e
-  ahead_one_to_one zero c e h k same = same
-  ahead_one_to_one (suc n) c e h k same =
-      next_one_to_one c e h k (ahead_one_to_one n (next polygons c) (next polygons e) (has_next c h) (has_next e k) same)
+  permutes : Permutes (next polygons) (all_sides polygons)
+  permutes = record {
+    inside = λ c i. in_all_sides polygons (next polygons c) (has_next c (all_sides_in polygons c i));
+    one_to_one = λ c e i j. next_one_to_one c e (all_sides_in polygons c i) (all_sides_in polygons e j);
+  }
+
+  pub has_one_vertex : (c e : Corner) → HasSide polygons c → AreOneVertex polygons c e → HasSide polygons e
+  has_one_vertex c e h k = all_sides_in polygons e (leads_in same_corner permutes c e (in_all_sides polygons c h) (leads_of polygons c e k))
+
+  pub one_vertex_of : (c e : Corner) → HasSide polygons c → LeadsTo (next polygons) c e → AreOneVertex polygons c e
+  one_vertex_of c e h (n, is) = (n, subst (Turned polygons n c) is (turned_ahead n c h))
 
   -- some number of turns leads back, at least one
   pub comes_back : (c : Corner) → HasSide polygons c → (n : ℕ) × (ahead polygons (suc n) c ≡ c)
-  comes_back c h =
-      let r : Repeats (λ i. ahead polygons i c) (length (all_sides polygons)) =
-      repeats same_corner (length (all_sides polygons)) (all_sides polygons) (λ i. ahead polygons i c) refl (λ i l. in_all_sides polygons (ahead polygons i c) (has_ahead i c h)) in
-      (r.more, sym (ahead_one_to_one r.first c (ahead polygons (suc r.more) c) h (has_ahead (suc r.more) c h) (r.same ∙ ahead-add polygons (suc r.more) r.first c)))
-
-  step_back : (c : Corner) → HasSide polygons c → AreOneVertex polygons (next polygons c) c
-  step_back c h =
-      let r = comes_back c h in
-      (r.0, subst (Turned polygons r.0 (next polygons c)) r.1 (turned_ahead r.0 (next polygons c) (has_next c h)))
-
-  back_by : (n : ℕ) (c e : Corner) → HasSide polygons c → Turned polygons n c e → AreOneVertex polygons e c
-  back_by zero c e h k = (0, sym k)
-  back_by (suc n) c e h (mid, t, k) =
-      let is = next_is polygons c mid t in
-      one_vertex_trans polygons e mid c (back_by n mid e (subst (HasSide polygons) (sym is) (has_next c h)) k)
-      (subst (λ x. AreOneVertex polygons x c) (sym is) (step_back c h))
+  comes_back c h = let r = returns same_corner permutes c (in_all_sides polygons c h) in (r.0, r.2)
 
   -- corners of one vertex are so both ways
   pub one_vertex_comm : (c e : Corner) → HasSide polygons c → AreOneVertex polygons c e → AreOneVertex polygons e c
-  one_vertex_comm c e h k = back_by k.0 c e h k.1
+  one_vertex_comm c e h k = one_vertex_of e c (has_one_vertex c e h k) (leads_symm same_corner permutes c e (in_all_sides polygons c h) (leads_of polygons c e k))

@@ -1,12 +1,12 @@
 -- Vertices, polygons and pairs of sides are even in number together: turning is the step to the side before, followed by the gluing.
-use Rattle.std.proofs.Common.{◌≡◌, inl, inr, ℕ, zero, suc, ◌<◌, Option, Some, None, List, [], ◌∷◌, length, map, sym, ap, ◌∙◌, refl, subst, arith}
+use Rattle.std.proofs.Common.{◌≡◌, inl, inr, ℕ, ◌<◌, Option, Some, None, List, [], ◌∷◌, length, map, sym, ap, ◌∙◌, refl, subst, arith}
 use Rattle.std.proofs.lemmas.List.{length-map}
 use Rattle.std.specs.Option.{IsSome, IfSome}
 use Rattle.std.specs.List.{AllByRecursion, slice_get}
 use Rattle.std.specs.declared.cmp.Ordering.TheVariants.{Less}
 use Rattle.fs_cycles.specs.Cycles as cycles
 use Rattle.fs_cycles.specs.Blocks.{StepsBack}
-use Rattle.fs_cycles.proofs.Lists.{in_of_contains, in_map}
+use Rattle.fs_cycles.proofs.Lists.{in_of_contains, in_map, in_map_cases}
 use Rattle.fs_cycles.proofs.Blocks.{even_with_blocks}
 use Rattle.fs_plane.specs.declared.corners.Corner.{Corner}
 use Rattle.fs_gluing.specs.declared.surfaces.Side.{Side}
@@ -14,37 +14,19 @@ use Rattle.fs_gluing.specs.Gluing.{corner_cmp}
 use Rattle.fs_gluing.specs.Polygons.{at_side, HasSide, all_sides}
 use Rattle.fs_gluing.specs.Surface.{GluedPolygons, IsSurface, IsPolygon, side_vectors}
 use Rattle.fs_gluing.specs.Turning.{TurnsTo, side_before, side_count}
-use Rattle.fs_gluing.specs.Vertices.{Turned, AreOneVertex}
+use Rattle.fs_gluing.specs.Vertices.{AreOneVertex}
 use Rattle.fs_gluing.proofs.Corners.{has_before, stands_in, turn_one_to_one}
 use Rattle.fs_stratum.specs.declared.cones.Cone.{Cone}
 use Rattle.fs_stratum.specs.Cones.{IsCone, AreCones, AreAscending}
-use Rattle.fs_stratum.proofs.Lists.{IsIn, IsApart, tally}
+use Rattle.fs_stratum.proofs.Lists.{tally}
 use Rattle.fs_stratum.proofs.Blank.{within_by}
-use Rattle.fs_stratum.proofs.Sides.{corner, corner_eq, same_corner, in_all_sides, all_sides_in, all_sides_apart, some_of_inside}
-use Rattle.fs_stratum.proofs.Orbits.{next, partner_or, turns_next, ahead, ahead_is, turned_ahead, one_vertex_comm}
+use Rattle.fs_stratum.proofs.Sides.{corner, corner_eq, same_corner, in_all_sides, all_sides_in, all_sides_distinct, some_of_inside}
+use Rattle.fs_stratum.proofs.Orbits.{next, partner_or, turns_next, leads_of, one_vertex_of, one_vertex_comm}
 use Rattle.fs_stratum.proofs.Rays.{before, before_suc, all_at, value_of}
 use Rattle.fs_stratum.proofs.Found.{less_of, of_less, has_in_row}
 use Rattle.fs_stratum.proofs.Sums.{low_at}
-use Rattle.fs_stratum.proofs.Halves.{partner, has_partner, partner-partner, partner-moved, low-half}
+use Rattle.fs_stratum.proofs.Halves.{partner, pairs, low-half}
 use Rattle.fs_stratum.proofs.EulerSum.{AreEvenTogether}
-
--- ---- the same of lists in the words of cycles
-
-to_in : {X : Type 0} (x : X) (xs : List X) → IsIn xs x → cycles.IsIn x xs
-to_in x [] h = h
-to_in x (y ∷ xs) h = elim h [ inl e ↦ inl (sym e) | inr k ↦ inr (to_in x xs k) ]
-
-of_in : {X : Type 0} (x : X) (xs : List X) → cycles.IsIn x xs → IsIn xs x
-of_in x [] h = h
-of_in x (y ∷ xs) h = elim h [ inl e ↦ inl (sym e) | inr k ↦ inr (of_in x xs k) ]
-
-distinct : {X : Type 0} (xs : List X) → IsApart xs → cycles.IsDistinct xs
-distinct [] a = tt
-distinct (x ∷ xs) a = ((λ y i e. a.0 (subst (IsIn xs) (sym e) (of_in y xs i))), distinct xs a.1)
-
-iterate-ahead : (polygons : List (List Side)) (n : ℕ) (c : Corner) → cycles.iterate (next polygons) n c ≡ ahead polygons n c
-iterate-ahead polygons zero c = refl
-iterate-ahead polygons (suc n) c = iterate-ahead polygons n (next polygons c)
 
 -- ---- least corners
 
@@ -69,15 +51,12 @@ ascending_less x (y ∷ rest) a e h = elim h [
 ]
 
 module _ (s : GluedPolygons) (surface : IsSurface s) where
+  pub cone_at : (cones : List Cone) (c : Cone) → AllByRecursion (IsCone s) cones → cycles.IsIn c cones → IsCone s c
+  cone_at [] c all i = absurd i
+  cone_at (x ∷ cones) c all i = elim i [ inl e ↦ subst (IsCone s) (sym e) all.0 | inr j ↦ cone_at cones c all.1 j ]
+
   cone_of : (cones : List Cone) → AllByRecursion (IsCone s) cones → (e : Corner) → cycles.IsIn e (firsts cones) → (cone : Cone) × IsCone s cone × (e ≡ cone.first)
-  cone_of [] all e h = absurd h
-  cone_of (x ∷ cones) all e h = elim h [ inl same ↦ (x, all.0, same) | inr k ↦ cone_of cones all.1 e k ]
-
-  one_vertex_of : (c e : Corner) → HasSide s.polygons c → cycles.LeadsTo (next s.polygons) c e → AreOneVertex s.polygons c e
-  one_vertex_of c e h (n, is) = (n, subst (λ x. Turned s.polygons n c x) (sym (iterate-ahead s.polygons n c) ∙ is) (turned_ahead s.polygons surface.glued n c h))
-
-  leads_of : (c e : Corner) → AreOneVertex s.polygons c e → cycles.LeadsTo (next s.polygons) c e
-  leads_of c e (n, t) = (n, iterate-ahead s.polygons n c ∙ sym (ahead_is s.polygons n c e t))
+  cone_of cones all e i = let r = in_map_cases (λ (cone : Cone). cone.first) e cones i in (r.0, cone_at cones r.0 all r.1, r.2)
 
   apart_firsts : (cones : List Cone) → AllByRecursion (IsCone s) cones → AreAscending (firsts cones) → cycles.AreApart (cycles.LeadsTo (next s.polygons)) (firsts cones)
   apart_firsts [] all a = tt
@@ -85,7 +64,7 @@ module _ (s : GluedPolygons) (surface : IsSurface s) where
     (λ e i leads.
         let z = cone_of rest all.1 e i in
         let there = all.0.there in
-        let one = one_vertex_comm s.polygons surface.glued x.first e there (one_vertex_of x.first e there leads) in
+        let one = one_vertex_comm s.polygons surface.glued x.first e there (one_vertex_of s.polygons surface.glued x.first e there leads) in
         z.1.least x.first (subst (λ c. AreOneVertex s.polygons c x.first) z.2 one) (subst (λ c. corner_cmp x.first c ≡ Less) z.2 (ascending_less x rest a e i))),
     apart_firsts rest all.1 (ascending_tail x rest a),
   )
@@ -93,18 +72,12 @@ module _ (s : GluedPolygons) (surface : IsSurface s) where
   -- the least corners stand for the cycles of turning
   represents : (cones : List Cone) → AreCones s cones → cycles.Represents (next s.polygons) (all_sides s.polygons) (firsts cones)
   represents cones a = record {
-    there = λ r i. let z = cone_of cones a.each r i in to_in r (all_sides s.polygons) (in_all_sides s.polygons r (subst (HasSide s.polygons) (sym z.2) z.1.there));
+    there = λ r i. let z = cone_of cones a.each r i in in_all_sides s.polygons r (subst (HasSide s.polygons) (sym z.2) z.1.there);
     each = λ x i.
-        let z = a.all x (all_sides_in s.polygons x (of_in x (all_sides s.polygons) i)) in
-        (z.0.first, in_map (λ (cone : Cone). cone.first) z.0 cones (in_of_contains z.0 cones z.1), leads_of z.0.first x z.2);
+        let z = a.all x (all_sides_in s.polygons x i) in
+        (z.0.first, in_map (λ (cone : Cone). cone.first) z.0 cones (in_of_contains z.0 cones z.1), leads_of s.polygons z.0.first x z.2);
     apart = apart_firsts cones a.each a.ascending;
   }
-
-  has : (x : Corner) → cycles.IsIn x (all_sides s.polygons) → HasSide s.polygons x
-  has x i = all_sides_in s.polygons x (of_in x (all_sides s.polygons) i)
-
-  listed : (x : Corner) → HasSide s.polygons x → cycles.IsIn x (all_sides s.polygons)
-  listed x h = to_in x (all_sides s.polygons) (in_all_sides s.polygons x h)
 
   before_one_to_one : (x y : Corner) → HasSide s.polygons x → HasSide s.polygons y → side_before s.polygons x ≡ side_before s.polygons y → x ≡ y
   before_one_to_one x y h k e =
@@ -118,17 +91,13 @@ module _ (s : GluedPolygons) (surface : IsSurface s) where
 
   followed : cycles.FollowedByPairs (side_before s.polygons) (partner s.polygons) (next s.polygons) (all_sides s.polygons)
   followed = record {
-    distinct = distinct (all_sides s.polygons) (all_sides_apart s.polygons);
+    distinct = all_sides_distinct s.polygons;
     permutes = record {
-      inside = λ x i. listed (side_before s.polygons x) (has_before s.polygons x (has x i));
-      one_to_one = λ x y i j e. before_one_to_one x y (has x i) (has y j) e;
+      inside = λ x i. in_all_sides s.polygons (side_before s.polygons x) (has_before s.polygons x (all_sides_in s.polygons x i));
+      one_to_one = λ x y i j e. before_one_to_one x y (all_sides_in s.polygons x i) (all_sides_in s.polygons y j) e;
     };
-    pairs = record {
-      inside = λ x i. listed (partner s.polygons x) (has_partner s surface x (has x i));
-      back = λ x i. partner-partner s surface x (has x i);
-      moved = λ x i. partner-moved s surface x (has x i);
-    };
-    followed = λ x i. partner-same x (side_before s.polygons x) (at_side s.polygons (side_before s.polygons x)) (has_before s.polygons x (has x i));
+    pairs = pairs s surface;
+    followed = λ x i. partner-same x (side_before s.polygons x) (at_side s.polygons (side_before s.polygons x)) (has_before s.polygons x (all_sides_in s.polygons x i));
   }
 
   head_has : (i : ℕ) → i < length s.polygons → HasSide s.polygons (corner i 0)
@@ -141,11 +110,11 @@ module _ (s : GluedPolygons) (surface : IsSurface s) where
   -- the step to the side before goes round each polygon
   steps_back : StepsBack (side_before s.polygons) (all_sides s.polygons) (length s.polygons) (λ c. c.polygon) (λ c. c.side) (λ i. corner i 0)
   steps_back = record {
-    below = λ x i. let st = stands_in s.polygons x (has x i) in within_by s.polygons x.polygon st.polygon st.is;
+    below = λ x i. let st = stands_in s.polygons x (all_sides_in s.polygons x i) in within_by s.polygons x.polygon st.polygon st.is;
     stays = λ x i. refl;
     steps = λ x i p e. ap (before (side_count s.polygons x.polygon)) e ∙ before_suc (side_count s.polygons x.polygon) p;
     arrives = λ x i e. corner_eq refl e;
-    there = λ i l. listed (corner i 0) (head_has i l);
+    there = λ i l. in_all_sides s.polygons (corner i 0) (head_has i l);
     named = λ i l. refl;
   }
 

@@ -12,6 +12,7 @@ use Rattle.fs_quadratic.specs.Ring.{zero as nil, one, neg, quadratic, IsPositive
 use Rattle.fs_quadratic.proofs.Laws.{field_order}
 use Rattle.fs_quadratic.proofs.SquareRoot.{radicand_no_square}
 use Rattle.fs_quadratic.proofs.Signs.{positive_of_sign, negative_of_sign}
+use Rattle.fs_cycles.proofs.Iterates.{iterate_after}
 use Rattle.fs_plane.specs.declared.corners.Corner.{Corner}
 use Rattle.fs_plane.specs.declared.vector.V2.{V2}
 use Rattle.fs_plane.specs.Vector.{vector_of, vector_neg, vector_zero, cross, is_raised, raised_by_signs}
@@ -24,7 +25,7 @@ use Rattle.fs_stratum.proofs.Turns as turns
 use Rattle.fs_stratum.proofs.East.{IsLeftTurn, left_turn}
 use Rattle.fs_stratum.proofs.Counts.{count_zero}
 use Rattle.fs_stratum.proofs.Sides.{in_all_sides}
-use Rattle.fs_stratum.proofs.Orbits.{next, ahead, ahead-add, has_ahead, has_one_vertex, turned_ahead, comes_back}
+use Rattle.fs_stratum.proofs.Orbits.{next, ahead, has_ahead, has_one_vertex, turned_ahead, comes_back}
 use Rattle.fs_stratum.proofs.Rays.{rays, raised_or, is_ray_raised, next_ray, holds_from_rays}
 
 -- ---- vectors, each to the left of the one before
@@ -86,7 +87,7 @@ abbrev ray : GluedPolygons → Corner → V2
 ray s c = vector_or (at_side s.polygons c)
 
 ahead-next : (polygons : List (List Side)) (i : ℕ) (c : Corner) → ahead polygons (suc i) c ≡ next polygons (ahead polygons i c)
-ahead-next polygons i c = let e : suc i ≡ i + 1 = omega arith in ap (λ n. ahead polygons n c) e ∙ ahead-add polygons i 1 c
+ahead-next polygons i c = iterate_after (next polygons) i c
 
 module _ (s : GluedPolygons) (surface : IsSurface s) where
   ray_raised : (c : Corner) → HasSide s.polygons c → is_raised s.d (ray s c) ≡ is_ray_raised s c

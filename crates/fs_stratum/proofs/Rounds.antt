@@ -3,6 +3,7 @@ use Rattle.std.proofs.Common.{◌≡◌, ◌⊎◌, inl, inr, ℕ, zero, suc, �
 use Rattle.std.proofs.lemmas.Bool.{cases_Bool}
 use Rattle.std.specs.Bool.{IsTrue}
 use Rattle.std.specs.Option.{IfSome}
+use Rattle.fs_cycles.specs.Cycles.{IsIn}
 use Rattle.fs_plane.specs.declared.corners.Corner.{Corner}
 use Rattle.fs_gluing.specs.declared.surfaces.Side.{Side}
 use Rattle.fs_plane.specs.declared.vector.V2.{V2}
@@ -12,8 +13,8 @@ use Rattle.fs_gluing.specs.Surface.{GluedPolygons, IsSurface}
 use Rattle.fs_gluing.specs.Turning.{TurnsTo}
 use Rattle.fs_gluing.specs.Vertices.{Turned, AreOneVertex, HoldsEast, IsCount, IsConeNumber}
 use Rattle.fs_stratum.specs.Marks.{is_marked, Covers, MarksCorner, MarksVertex}
-use Rattle.fs_stratum.proofs.Lists.{IsIn, one_if, tally}
-use Rattle.fs_stratum.proofs.Sides.{same_corner, in_all_sides, all_sides_apart, length-all_sides}
+use Rattle.fs_stratum.proofs.Lists.{one_if, tally}
+use Rattle.fs_stratum.proofs.Sides.{same_corner, in_all_sides, all_sides_distinct, length-all_sides}
 use Rattle.fs_stratum.proofs.Orbits.{next, next_is, has_next, has_one_vertex, one_vertex_self, one_vertex_next}
 use Rattle.fs_stratum.proofs.Rays.{is_ray_raised, ray_read, holds_from_rays, rays_from_holds}
 use Rattle.fs_stratum.proofs.Counts.{count_same, count_more, count_none, count_at_most}
@@ -37,12 +38,12 @@ fewer p q (x ∷ xs) f =
     ] in
     omega arith
 
-falls : (p q : Corner → Bool) (xs : List Corner) (c : Corner) → IsIn xs c → ((e : Corner) → q e ≡ true → p e ≡ true) → p c ≡ true → q c ≡ false → tally q xs < tally p xs
+falls : (p q : Corner → Bool) (xs : List Corner) (c : Corner) → IsIn c xs → ((e : Corner) → q e ≡ true → p e ≡ true) → p c ≡ true → q c ≡ false → tally q xs < tally p xs
 falls p q [] c i f a b = absurd i
 falls p q (x ∷ xs) c (inl e) f a b =
     let rest = fewer p q xs f in
-    let yes : one_if (p x) ≡ 1 = ap (λ y. one_if (p y)) e ∙ ap one_if a in
-    let no : one_if (q x) ≡ 0 = ap (λ y. one_if (q y)) e ∙ ap one_if b in
+    let yes : one_if (p x) ≡ 1 = ap (λ y. one_if (p y)) (sym e) ∙ ap one_if a in
+    let no : one_if (q x) ≡ 0 = ap (λ y. one_if (q y)) (sym e) ∙ ap one_if b in
     omega arith
 falls p q (x ∷ xs) c (inr i) f a b =
     let rest = falls p q xs c i f a b in
@@ -122,7 +123,7 @@ module _ (s : GluedPolygons) (first : Corner) (old : List (List Bool)) (fresh : 
           start = elim r.start [ inl a ↦ inl (more_keeps c now more m first a) | inr b ↦ inl (ap (is_marked more) b ∙ m.here) ];
           count = elim counted [
             | inl a ↦ subst (IsCount Q (all_sides s.polygons)) (sym a.1)
-                (count_more P Q (all_sides s.polygons) c k (all_sides_apart s.polygons) (in_all_sides s.polygons c (has_here now c k r))
+                (count_more P Q (all_sides s.polygons) c k (all_sides_distinct s.polygons) (in_all_sides s.polygons c (has_here now c k r))
                 (λ p. not_both p.0.0 free) ((m.here, r.here), a.0)
                 (λ x apart p. ((more_keeps c now more m x p.0.0, p.0.1), p.1))
                 (λ x apart q. elim (more_cases c now more m x q.0.0) [ inl same ↦ absurd (apart (sym same)) | inr l ↦ ((l, q.0.1), q.1) ]) r.count)

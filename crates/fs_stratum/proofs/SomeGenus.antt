@@ -14,9 +14,8 @@ use Rattle.fs_stratum.proofs.Sides.{all_sides_in}
 use Rattle.fs_stratum.proofs.Orbits.{one_vertex_trans, one_vertex_comm}
 use Rattle.fs_stratum.proofs.Counts.{count_same, count_none, count_join}
 use Rattle.fs_stratum.proofs.Positive.{cone_number_positive}
-use Rattle.fs_stratum.proofs.Parity.{firsts, ascending_tail, ascending_less, even_together}
+use Rattle.fs_stratum.proofs.Parity.{firsts, ascending_tail, ascending_less, cone_at, even_together}
 use Rattle.fs_stratum.proofs.EulerSum.{has_genus}
-use Rattle.fs_stratum.proofs.OneList.{cone_at}
 
 module _ (s : GluedPolygons) (surface : IsSurface s) where
   all_positive : (cones : List Cone) → AllByRecursion (IsCone s) cones → AllByRecursion (λ cone. 1 ≤ cone.k) cones

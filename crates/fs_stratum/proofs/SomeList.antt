@@ -1,9 +1,11 @@
 -- A surface has a list of vertices.
 use Rattle.std.proofs.Common.{◌≡◌, ◌⊎◌, inl, inr, ℕ, zero, suc, ◌+◌, List, [], ◌∷◌, ◌++◌, length, map, sym, refl, subst, arith}
 use Rattle.std.proofs.lemmas.List.Elements.{Contains-append_left, Contains-push}
-use Rattle.std.specs.List.{AllByRecursion, Contains}
+use Rattle.std.specs.List.{AllByRecursion}
 use Rattle.std.specs.declared.cmp.Ordering.TheVariants.{Less}
 use Rattle.fs_quadratic.proofs.Firsts.{All-append}
+use Rattle.fs_cycles.specs.Cycles.{IsIn}
+use Rattle.fs_cycles.proofs.Lists.{in_append_cases}
 use Rattle.fs_plane.specs.declared.corners.Corner.{Corner}
 use Rattle.fs_gluing.specs.Gluing.{corner_cmp}
 use Rattle.fs_gluing.specs.Polygons.{HasSide, sides_from, all_sides}
@@ -12,10 +14,9 @@ use Rattle.fs_gluing.specs.Vertices.{AreOneVertex, HoldsEast, IsCount, IsConeNum
 use Rattle.fs_gluing.proofs.Checks.{All-weaker}
 use Rattle.fs_stratum.specs.declared.cones.Cone.{Cone}
 use Rattle.fs_stratum.specs.Cones.{IsCone, AreCones, AreAscending}
-use Rattle.fs_stratum.proofs.Lists.{IsIn, in_cases}
 use Rattle.fs_stratum.proofs.Sides.{corner, row, row_in, sides_from_in, in_all_sides, all_sides_in}
 use Rattle.fs_stratum.proofs.Orbits.{has_one_vertex, one_vertex_self, one_vertex_trans, one_vertex_comm}
-use Rattle.fs_stratum.proofs.Found.{less_of, ascending_push}
+use Rattle.fs_stratum.proofs.Found.{less_of, ascending_push, IsListed}
 use Rattle.fs_stratum.proofs.OneList.{not_less_itself, not_less_both_ways}
 
 -- ---- what isn't refuted
@@ -36,12 +37,12 @@ some_count P (x ∷ xs) refuted =
 -- each corner comes before all that stand after it
 abbrev IsSorted : List Corner → Type 0
 IsSorted [] = Unit {0}
-IsSorted (c ∷ corners) = ((e : Corner) → IsIn corners e → corner_cmp c e ≡ Less) × IsSorted corners
+IsSorted (c ∷ corners) = ((e : Corner) → IsIn e corners → corner_cmp c e ≡ Less) × IsSorted corners
 
-sorted-append : (xs ys : List Corner) → IsSorted xs → IsSorted ys → ((x y : Corner) → IsIn xs x → IsIn ys y → corner_cmp x y ≡ Less) → IsSorted (xs ++ ys)
+sorted-append : (xs ys : List Corner) → IsSorted xs → IsSorted ys → ((x y : Corner) → IsIn x xs → IsIn y ys → corner_cmp x y ≡ Less) → IsSorted (xs ++ ys)
 sorted-append [] ys a b less = b
 sorted-append (x ∷ xs) ys a b less = (
-  (λ e h. elim (in_cases xs ys e h) [ inl k ↦ a.0 e k | inr k ↦ less x e (inl refl) k ]),
+  (λ e h. elim (in_append_cases e xs ys h) [ inl k ↦ a.0 e k | inr k ↦ less x e (inl refl) k ]),
   sorted-append xs ys a.1 b (λ u v h k. less u v (inr h) k),
 )
 
@@ -64,19 +65,16 @@ sides_from_sorted i (polygon ∷ polygons) =
 -- ---- corner after corner
 
 module _ (s : GluedPolygons) (surface : IsSurface s) where
-  abbrev IsListed : List Cone → Corner → Type 0
-  IsListed cones e = (cone : Cone) × Contains cones cone × AreOneVertex s.polygons cone.first e
-
   -- these are the vertices of the corners that stand before the rest
   record AreBefore (rest : List Corner) (cones : List Cone) : Type 0 where
     each : AllByRecursion (IsCone s) cones
     ascending : AreAscending (map (λ (cone : Cone). cone.first) cones)
-    earlier : AllByRecursion (λ (cone : Cone). (e : Corner) → IsIn rest e → corner_cmp cone.first e ≡ Less) cones
-    there : (e : Corner) → IsIn rest e → HasSide s.polygons e
+    earlier : AllByRecursion (λ (cone : Cone). (e : Corner) → IsIn e rest → corner_cmp cone.first e ≡ Less) cones
+    there : (e : Corner) → IsIn e rest → HasSide s.polygons e
     sorted : IsSorted rest
-    listed : (e : Corner) → HasSide s.polygons e → IsIn rest e ⊎ IsListed cones e
+    listed : (e : Corner) → HasSide s.polygons e → IsIn e rest ⊎ IsListed s cones e
 
-  kept : (cones : List Cone) (cone : Cone) (e : Corner) → IsListed cones e → IsListed (cones ++ cone ∷ []) e
+  kept : (cones : List Cone) (cone : Cone) (e : Corner) → IsListed s cones e → IsListed s (cones ++ cone ∷ []) e
   kept cones cone e h = (h.0, Contains-append_left cones (cone ∷ []) h.0 h.1, h.2)
 
   before_none : AreBefore (all_sides s.polygons) []
@@ -90,22 +88,22 @@ module _ (s : GluedPolygons) (surface : IsSurface s) where
   }
 
   -- the corner is of a listed vertex
-  before_seen : (c : Corner) (rest : List Corner) (cones : List Cone) → AreBefore (c ∷ rest) cones → IsListed cones c → AreBefore rest cones
+  before_seen : (c : Corner) (rest : List Corner) (cones : List Cone) → AreBefore (c ∷ rest) cones → IsListed s cones c → AreBefore rest cones
   before_seen c rest cones b seen = record {
     each = b.each;
     ascending = b.ascending;
-    earlier = All-weaker (λ (cone : Cone). (e : Corner) → IsIn (c ∷ rest) e → corner_cmp cone.first e ≡ Less) (λ (cone : Cone). (e : Corner) → IsIn rest e → corner_cmp cone.first e ≡ Less)
+    earlier = All-weaker (λ (cone : Cone). (e : Corner) → IsIn e (c ∷ rest) → corner_cmp cone.first e ≡ Less) (λ (cone : Cone). (e : Corner) → IsIn e rest → corner_cmp cone.first e ≡ Less)
         (λ cone f e i. f e (inr i)) cones b.earlier;
     there = λ e i. b.there e (inr i);
     sorted = b.sorted.1;
     listed = λ e h. elim (b.listed e h) [
-      | inl i ↦ elim i [ inl same ↦ inr (subst (IsListed cones) same seen) | inr j ↦ inl j ]
+      | inl i ↦ elim i [ inl same ↦ inr (subst (IsListed s cones) (sym same) seen) | inr j ↦ inl j ]
       | inr l ↦ inr l
     ];
   }
 
   -- the corner is the least of its vertex
-  before_new : (c : Corner) (rest : List Corner) (cones : List Cone) (k : ℕ) → AreBefore (c ∷ rest) cones → ¬ IsListed cones c → IsConeNumber s c k
+  before_new : (c : Corner) (rest : List Corner) (cones : List Cone) (k : ℕ) → AreBefore (c ∷ rest) cones → ¬ IsListed s cones c → IsConeNumber s c k
       → AreBefore rest (cones ++ (record { first = c; k = k }) ∷ [])
   before_new c rest cones k b new number =
       let cone : Cone = record { first = c; k = k } in
@@ -116,7 +114,7 @@ module _ (s : GluedPolygons) (surface : IsSurface s) where
             there = has;
             least = λ e o l. elim (b.listed e (has_one_vertex s.polygons surface.glued c e has o)) [
               | inl i ↦ elim i [
-                | inl same ↦ not_less_itself c (subst (λ x. corner_cmp x c ≡ Less) (sym same) l)
+                | inl same ↦ not_less_itself c (subst (λ x. corner_cmp x c ≡ Less) same l)
                 | inr j ↦ not_less_both_ways c e (b.sorted.0 e j) l
               ]
               | inr f ↦ new (f.0, f.1, one_vertex_trans s.polygons f.0.first e c f.2 (one_vertex_comm s.polygons surface.glued c e has o))
@@ -126,16 +124,16 @@ module _ (s : GluedPolygons) (surface : IsSurface s) where
           tt,
         );
         ascending = ascending_push cones cone b.ascending
-            (All-weaker (λ (x : Cone). (e : Corner) → IsIn (c ∷ rest) e → corner_cmp x.first e ≡ Less) (λ (x : Cone). corner_cmp x.first c ≡ Less) (λ x f. f c (inl refl)) cones b.earlier);
-        earlier = All-append (λ (x : Cone). (e : Corner) → IsIn rest e → corner_cmp x.first e ≡ Less) cones (cone ∷ [])
-            (All-weaker (λ (x : Cone). (e : Corner) → IsIn (c ∷ rest) e → corner_cmp x.first e ≡ Less) (λ (x : Cone). (e : Corner) → IsIn rest e → corner_cmp x.first e ≡ Less)
+            (All-weaker (λ (x : Cone). (e : Corner) → IsIn e (c ∷ rest) → corner_cmp x.first e ≡ Less) (λ (x : Cone). corner_cmp x.first c ≡ Less) (λ x f. f c (inl refl)) cones b.earlier);
+        earlier = All-append (λ (x : Cone). (e : Corner) → IsIn e rest → corner_cmp x.first e ≡ Less) cones (cone ∷ [])
+            (All-weaker (λ (x : Cone). (e : Corner) → IsIn e (c ∷ rest) → corner_cmp x.first e ≡ Less) (λ (x : Cone). (e : Corner) → IsIn e rest → corner_cmp x.first e ≡ Less)
             (λ x f e i. f e (inr i)) cones b.earlier)
             (b.sorted.0, tt);
         there = λ e i. b.there e (inr i);
         sorted = b.sorted.1;
         listed = λ e h. elim (b.listed e h) [
           | inl i ↦ elim i [
-            | inl same ↦ inr (cone, Contains-push cones cone, subst (AreOneVertex s.polygons c) same (one_vertex_self s.polygons c))
+            | inl same ↦ inr (cone, Contains-push cones cone, subst (AreOneVertex s.polygons c) (sym same) (one_vertex_self s.polygons c))
             | inr j ↦ inl j
           ]
           | inr l ↦ inr (kept cones cone e l)
@@ -144,7 +142,7 @@ module _ (s : GluedPolygons) (surface : IsSurface s) where
 
   walk : (rest : List Corner) (cones : List Cone) → AreBefore rest cones → ((cones : List Cone) → AreCones s cones → ⊥) → ⊥
   walk [] cones b refuted = refuted cones (record { each = b.each; ascending = b.ascending; all = λ c h. elim (b.listed c h) [ inl i ↦ absurd i | inr l ↦ l ] })
-  walk (c ∷ rest) cones b refuted = either (IsListed cones c) (λ known. elim known [
+  walk (c ∷ rest) cones b refuted = either (IsListed s cones c) (λ known. elim known [
     | inl seen ↦ walk rest cones (before_seen c rest cones b seen) refuted
     | inr new ↦ some_count (λ e. AreOneVertex s.polygons c e × HoldsEast s e) (all_sides s.polygons)
         (λ k number. walk rest (cones ++ (record { first = c; k = k }) ∷ []) (before_new c rest cones k b new number) refuted)

@@ -1,5 +1,5 @@
 -- How many corners hold (1,0), polygon by polygon: one less than the sides that aren't raised.
-use Rattle.std.proofs.Common.{◌≡◌, ℕ, suc, ◌+◌, ◌-◌, Bool, false, cond, not, Option, Some, None, List, [], ◌∷◌, length, map, count_by, sym, ap, ◌∙◌, refl, arith}
+use Rattle.std.proofs.Common.{◌≡◌, ℕ, suc, ◌+◌, ◌-◌, Bool, false, cond, not, Option, Some, None, List, [], ◌∷◌, inl, length, map, count_by, sym, ap, ◌∙◌, refl, arith}
 use Rattle.std.proofs.lemmas.List.Sums.{sum_by-cons}
 use Rattle.std.proofs.lemmas.List.{length-map}
 use Rattle.std.specs.Option.{option_and_then}
@@ -9,13 +9,14 @@ use Rattle.fs_plane.specs.declared.corners.Corner.{Corner}
 use Rattle.fs_plane.specs.declared.vector.V2.{V2}
 use Rattle.fs_plane.specs.Vector.{is_raised}
 use Rattle.fs_gluing.specs.declared.surfaces.Side.{Side}
-use Rattle.fs_gluing.specs.Convex.{bends_from, last_side, TurnsLeft, is_rise}
+use Rattle.fs_gluing.specs.Convex.{bends, bends_from, last_side, TurnsLeft, is_rise}
 use Rattle.fs_gluing.specs.Polygons.{at_side, sides_from, all_sides}
 use Rattle.fs_gluing.specs.Surface.{GluedPolygons, IsSurface, IsPolygon, side_vectors}
 use Rattle.fs_gluing.specs.Turning.{side_before, length_or_0}
+use Rattle.fs_gluing.proofs.Checks.{All-weaker}
 use Rattle.fs_stratum.proofs.Lists.{tally, one_if, tally-append, tally-agree}
 use Rattle.fs_stratum.proofs.Sides.{corner, row, some_of_inside}
-use Rattle.fs_stratum.proofs.East.{is_held, is_east, counted}
+use Rattle.fs_stratum.proofs.East.{GoesOn, is_held, is_east, counted}
 use Rattle.fs_stratum.proofs.Rays.{before, before_zero, before_suc, last_is, value_of}
 
 -- ---- round a polygon, by its vectors
@@ -35,7 +36,8 @@ rises-next d b s sides = sum_by-cons (λ bend. cond (is_rise d bend) 1 0) (recor
 sum_more : (h r e l a hs rs rss n el ll ts : ℕ) → h + r + e ≡ l + a → rss ≡ r + rs → hs + rs + a + ll ≡ n + ts + el → h + hs + rss + e + ll ≡ l + (n + ts) + el
 sum_more h r e l a hs rs rss n el ll ts p q s = omega arith
 
-held-path : {d : ℕ} → IsRadicand d → (b : V2) (sides : List V2) → AllByRecursion (TurnsLeft d) (bends_from b sides)
+-- along a walk that turns left or goes straight on at each corner: held corners and rises by the sides that aren't raised
+held-path : {d : ℕ} → IsRadicand d → (b : V2) (sides : List V2) → AllByRecursion (GoesOn d) (bends_from b sides)
     → held_from d b sides + count_by (is_rise d) (bends_from b sides) + one_if (is_east d b) + one_if (is_low d (last_side (b ∷ sides)))
     ≡ one_if (is_low d b) + tally (is_low d) sides + one_if (is_east d (last_side (b ∷ sides)))
 held-path {d} radicand b [] all = sum_none (one_if (is_east d b)) (one_if (is_low d b))
@@ -49,7 +51,7 @@ held-round : {d : ℕ} → IsRadicand d → (sides : List V2) → IsPolygon d si
 held-round radicand [] p = let l = p.three in absurd (omega arith)
 held-round {d} radicand (s ∷ sides) p =
     sum_round (held_from d (last_side (s ∷ sides)) (s ∷ sides)) _ (one_if (is_east d (last_side (s ∷ sides)))) (one_if (is_low d (last_side (s ∷ sides)))) (tally (is_low d) (s ∷ sides))
-    (held-path radicand (last_side (s ∷ sides)) (s ∷ sides) p.convex) p.once
+    (held-path radicand (last_side (s ∷ sides)) (s ∷ sides) (All-weaker (TurnsLeft d) (GoesOn d) (λ bend left. inl left) (bends (s ∷ sides)) p.convex)) p.once
   where
     sum_round : (h r e l t : ℕ) → h + r + e + l ≡ l + t + e → r ≡ 1 → h + 1 ≡ t
     sum_round h r e l t p q = omega arith

@@ -2,7 +2,7 @@
 use Rattle.std.proofs.Common.{◌≡◌, [], ◌∷◌, refl}
 use Rattle.fs_ring.specs.Operations.{Operations}
 use Rattle.fs_ring.specs.OrderedRing.{IsOrderedRing}
-use Rattle.fs_ring.specs.Vector.{Vector, cross, dot}
+use Rattle.fs_ring.specs.Vector.{Vector, cross, dot, norm}
 use Rattle.fs_ring.specs.Direction.{IsAlong}
 use Rattle.fs_ring.proofs.Signs as signs
 use Rattle.fs_ring.proofs.Directions as directions
@@ -41,6 +41,18 @@ module _ {A : Type 0} {R : Operations A} {IsPositive : A → Type 0} (L : IsOrde
 
     pub after-ne-zero : a.y ≡ 𝟘 → a.x ≡ 𝟘 → ⊥
     after-ne-zero e f = directions.cross_positive-ne-zero_right L left (vector_eq f e)
+
+  -- ---- straight on from before to after: the parts of both have the same signs
+
+  module _ (b a : Vector A) (along : IsAlong R IsPositive b a) where
+    pub along_x : norm R b * a.x ≡ dot R b a * b.x
+    along_x = plane_derived L.ring [] (b ∷ a ∷ []) (λ b a. norm E b ⊗ a.x ≐ dot E b a ⊗ b.x from (E.neg b.y, cross E b a ≐ numeral 0) ∷ []) refl (along.parallel, tt)
+
+    pub along_y : norm R b * a.y ≡ dot R b a * b.y
+    along_y = plane_derived L.ring [] (b ∷ a ∷ []) (λ b a. norm E b ⊗ a.y ≐ dot E b a ⊗ b.y from (b.x, cross E b a ≐ numeral 0) ∷ []) refl (along.parallel, tt)
+
+    pub along_norm : IsPositive (norm R b)
+    along_norm = directions.norm_positive L b (directions.dot_positive-ne-zero_left L along.same_way)
 
   -- ---- how a vector stands to one along the first axis
 

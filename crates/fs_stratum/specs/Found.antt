@@ -1,12 +1,12 @@
 -- The vertices that are found where the corners before one are gone through in their order.
-use Rattle.std.specs.Prelude.{◌≡◌, ◌↔◌, ◌≤◌, Bool, IsTrue, List, map, sum_by, Contains}
+use Rattle.std.specs.Prelude.{◌≡◌, ◌↔◌, Bool, IsTrue, List, map, Contains}
 use Rattle.std.specs.List.{AllByRecursion}
 use Rattle.std.specs.declared.cmp.Ordering.TheVariants.{Less}
 use Rattle.fs_plane.specs.declared.corners.Corner.{Corner}
 use Rattle.fs_gluing.specs.Gluing.{corner_cmp}
-use Rattle.fs_gluing.specs.Polygons.{HasSide, all_sides}
+use Rattle.fs_gluing.specs.Polygons.{HasSide}
 use Rattle.fs_gluing.specs.Surface.{GluedPolygons}
-use Rattle.fs_gluing.specs.Vertices.{AreOneVertex, HoldsEast, IsCount}
+use Rattle.fs_gluing.specs.Vertices.{AreOneVertex}
 use Rattle.fs_stratum.specs.declared.cones.Cone.{Cone}
 use Rattle.fs_stratum.specs.Cones.{IsCone, AreAscending}
 use Rattle.fs_stratum.specs.Marks.{is_marked, Covers}
@@ -15,9 +15,7 @@ use Rattle.fs_stratum.specs.Marks.{is_marked, Covers}
 pub record AreFoundBefore (s : GluedPolygons) (c : Corner) (marks : List (List Bool)) (cones : List Cone) : Type 0 where
   pub covers : Covers s.polygons marks
   pub each : AllByRecursion (IsCone s) cones
-  pub positive : AllByRecursion (λ cone. 1 ≤ cone.k) cones
   pub ascending : AreAscending (map (λ cone. cone.first) cones)
   pub earlier : AllByRecursion (λ cone. corner_cmp cone.first c ≡ Less) cones
   pub marked : (e : Corner) → IsTrue (is_marked marks e) ↔ ((cone : Cone) × Contains cones cone × AreOneVertex s.polygons cone.first e)
   pub passed : (e : Corner) → HasSide s.polygons e → corner_cmp e c ≡ Less → IsTrue (is_marked marks e)
-  pub total : IsCount (λ e. IsTrue (is_marked marks e) × HoldsEast s e) (all_sides s.polygons) (sum_by (λ cone. cone.k) cones)

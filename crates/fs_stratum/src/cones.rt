@@ -85,10 +85,10 @@ fn go_round(surface: &Surface, first: Corner, marks: &mut Marks) -> u32
     k
 }
 
-/// The genus of a surface with these vertices: 1 plus half the sum of k - 1.
+/// The genus of whatever surface has these vertices: 1 plus half the sum of k - 1.
 pub fn genus(cones: &[Cone]) -> u32
-    requires { (s : GluedPolygons) × IsSurface s × AreCones s cones.now × ((g : ℕ) × HasGenus s cones.now g) }
-    ensures { (s : GluedPolygons) → (g : ℕ) → HasGenus s cones.now g → result ≡ g }
+    requires { (s : GluedPolygons) × IsSurface s × AreCones s cones.now }
+    ensures { (s : GluedPolygons) → IsSurface s → AreCones s cones.now → HasGenus s cones.now result }
 {
     let mut twice = 2;
     for cone in cones {

@@ -7,10 +7,17 @@ use Rattle.fs_gluing.specs.Checks.{AnswersFirst}
 use Rattle.fs_gluing.specs.FirstFault.{Judges, PassesLine, line_tests}
 use Rattle.fs_gluing.specs.Gluing.{corner_cmp, ArePartners}
 use Rattle.fs_gluing.proofs.Checks.{at_exit}
-use Rattle.fs_gluing.proofs.Glued.{paired_by}
+use Rattle.fs_gluing.proofs.Glued.{IsPaired, paired_by}
 use Rattle.fs_gluing.proofs.Lines.{answer_line}
-use Rattle.fs_gluing.proofs.Judged.{is_scaled, passed_on, judged_at_scale, short, some_rows, few_rows, glued_sides_of, near_rows, apart_rows, surface_is, places_are, built, judged_at_polygons, judged_at_lines, judged_at_sides, first_from_judged}
+use Rattle.fs_gluing.proofs.Judged.{IsScaled, is_scaled, passed_on, judged_at_scale, short, some_rows, few_rows, glued_sides_of, near_rows, apart_rows, surface_is, places_are, built, judged_at_polygons, judged_at_lines, judged_at_sides, first_from_judged}
+use Rattle.fs_gluing.proofs.building.build.Goals.{In_ok-scaled, In_ok-glued}
 use Rattle.fs_gluing.proofs.building.build.Goals as goal
+
+scaled_of : (c : In_ok-scaled) → IsScaled c.args.shape.now c.in_ok-scaled.scaled.den c.in_ok-scaled.scaled.polygons
+scaled_of c = is_scaled c.args.shape.now c.in_ok-scaled.scaled.den c.in_ok-scaled.scaled.polygons c.in_ok-scaled.ensures.passed c.in_ok-scaled.ensures.den c.in_ok-scaled.ensures.polygons c.in_ok-scaled.ensures.positive c.in_ok-scaled.ensures.within
+
+paired_of : (c : In_ok-glued) → IsPaired c.args.field.d c.in_ok-scaled.scaled.polygons c.args.shape.now.glues (get corner_cmp c.in_ok-partners.partners)
+paired_of c = paired_by c.args.field.d c.in_ok-scaled.scaled.polygons _ _ _ c.as_slice.ensures c.in_ok-places.ensures.passed c.in_ok-partners.ensures.passed c.in_ok-partners.ensures.paired c.in_ok-glued.ensures.passed
 
 pub returns-in_err-scaled : goal.returns-in_err-scaled
 returns-in_err-scaled c =
@@ -20,24 +27,24 @@ returns-in_err-scaled c =
 
 pub check_polygons-requires-clause-short : goal.check_polygons-requires-clause-short
 check_polygons-requires-clause-short c =
-    let scaled = is_scaled c.args.shape.now c.in_ok-scaled.scaled.den c.in_ok-scaled.scaled.polygons c.in_ok-scaled.ensures.passed c.in_ok-scaled.ensures.den c.in_ok-scaled.ensures.polygons c.in_ok-scaled.ensures.positive c.in_ok-scaled.ensures.within in
+    let scaled = scaled_of (goal.at.check_polygons-requires-clause-short c).In_ok-scaled in
     short c.args.field.d c.args.shape.now c.in_ok-scaled.scaled.den c.in_ok-scaled.scaled.polygons scaled c.requires
 
 pub glue_polygons-requires-clause-short : goal.glue_polygons-requires-clause-short
 glue_polygons-requires-clause-short c =
-    let scaled = is_scaled c.args.shape.now c.in_ok-scaled.scaled.den c.in_ok-scaled.scaled.polygons c.in_ok-scaled.ensures.passed c.in_ok-scaled.ensures.den c.in_ok-scaled.ensures.polygons c.in_ok-scaled.ensures.positive c.in_ok-scaled.ensures.within in
+    let scaled = scaled_of (goal.at.glue_polygons-requires-clause-short c).In_ok-scaled in
     short c.args.field.d c.args.shape.now c.in_ok-scaled.scaled.den c.in_ok-scaled.scaled.polygons scaled c.requires
 
 pub returns-in_err-places : goal.returns-in_err-places
 returns-in_err-places c =
-    let scaled = is_scaled c.args.shape.now c.in_ok-scaled.scaled.den c.in_ok-scaled.scaled.polygons c.in_ok-scaled.ensures.passed c.in_ok-scaled.ensures.den c.in_ok-scaled.ensures.polygons c.in_ok-scaled.ensures.positive c.in_ok-scaled.ensures.within in
+    let scaled = scaled_of (goal.at.returns-in_err-places c).In_ok-scaled in
     let judged = at_exit (Judges c.args.field.d c.args.shape.now) c.from_residual-in_err-places.result c.in_err-places.field-0.0 c.from_residual-in_err-places.ensures.1
     (judged_at_polygons c.args.field.d c.args.shape.now c.in_ok-scaled.scaled.den c.in_ok-scaled.scaled.polygons scaled _ c.in_err-places.ensures.failed) in
     record { judged = judged; first = first_from_judged c.args.field.d c.args.shape.now _ judged }
 
 pub returns-in_err-partners : goal.returns-in_err-partners
 returns-in_err-partners c =
-    let scaled = is_scaled c.args.shape.now c.in_ok-scaled.scaled.den c.in_ok-scaled.scaled.polygons c.in_ok-scaled.ensures.passed c.in_ok-scaled.ensures.den c.in_ok-scaled.ensures.polygons c.in_ok-scaled.ensures.positive c.in_ok-scaled.ensures.within in
+    let scaled = scaled_of (goal.at.returns-in_err-partners c).In_ok-scaled in
     let polygons = c.in_ok-scaled.scaled.polygons in
     let e = c.in_err-partners.field-0.0 in
     let failed = subst (λ (gs : List Glue). (e ≡ NoMemory) ⊎ AnswersFirst (PassesLine polygons) (line_tests [] gs) answer_line e) c.as_slice.ensures c.in_err-partners.ensures.failed in
@@ -47,7 +54,7 @@ returns-in_err-partners c =
 
 pub returns-in_err-glued : goal.returns-in_err-glued
 returns-in_err-glued c =
-    let scaled = is_scaled c.args.shape.now c.in_ok-scaled.scaled.den c.in_ok-scaled.scaled.polygons c.in_ok-scaled.ensures.passed c.in_ok-scaled.ensures.den c.in_ok-scaled.ensures.polygons c.in_ok-scaled.ensures.positive c.in_ok-scaled.ensures.within in
+    let scaled = scaled_of (goal.at.returns-in_err-glued c).In_ok-scaled in
     let polygons = c.in_ok-scaled.scaled.polygons in
     let p = get corner_cmp c.in_ok-partners.partners in
     let lines = subst (λ (gs : List Glue). AllByRecursion (PassesLine polygons) (line_tests [] gs)) c.as_slice.ensures c.in_ok-partners.ensures.passed in
@@ -58,39 +65,39 @@ returns-in_err-glued c =
 
 pub check_reached-requires-clause-some : goal.check_reached-requires-clause-some
 check_reached-requires-clause-some c =
-    let scaled = is_scaled c.args.shape.now c.in_ok-scaled.scaled.den c.in_ok-scaled.scaled.polygons c.in_ok-scaled.ensures.passed c.in_ok-scaled.ensures.den c.in_ok-scaled.ensures.polygons c.in_ok-scaled.ensures.positive c.in_ok-scaled.ensures.within in
+    let scaled = scaled_of (goal.at.check_reached-requires-clause-some c).In_ok-scaled in
     let p = get corner_cmp c.in_ok-partners.partners in
-    let paired = paired_by c.args.field.d c.in_ok-scaled.scaled.polygons _ _ p c.as_slice.ensures c.in_ok-places.ensures.passed c.in_ok-partners.ensures.passed c.in_ok-partners.ensures.paired c.in_ok-glued.ensures.passed in
+    let paired = paired_of (goal.at.check_reached-requires-clause-some c).In_ok-glued in
     some_rows c.args.field.d c.args.shape.now c.in_ok-scaled.scaled.den c.in_ok-scaled.scaled.polygons scaled p paired c.in_ok-glued.glued c.in_ok-glued.ensures.glued c.requires
 
 pub check_reached-requires-clause-few : goal.check_reached-requires-clause-few
 check_reached-requires-clause-few c =
-    let scaled = is_scaled c.args.shape.now c.in_ok-scaled.scaled.den c.in_ok-scaled.scaled.polygons c.in_ok-scaled.ensures.passed c.in_ok-scaled.ensures.den c.in_ok-scaled.ensures.polygons c.in_ok-scaled.ensures.positive c.in_ok-scaled.ensures.within in
+    let scaled = scaled_of (goal.at.check_reached-requires-clause-few c).In_ok-scaled in
     let p = get corner_cmp c.in_ok-partners.partners in
-    let paired = paired_by c.args.field.d c.in_ok-scaled.scaled.polygons _ _ p c.as_slice.ensures c.in_ok-places.ensures.passed c.in_ok-partners.ensures.passed c.in_ok-partners.ensures.paired c.in_ok-glued.ensures.passed in
+    let paired = paired_of (goal.at.check_reached-requires-clause-few c).In_ok-glued in
     few_rows c.args.field.d c.args.shape.now c.in_ok-scaled.scaled.den c.in_ok-scaled.scaled.polygons scaled p paired c.in_ok-glued.glued c.in_ok-glued.ensures.glued c.requires
 
 pub check_reached-requires-clause-glued : goal.check_reached-requires-clause-glued
 check_reached-requires-clause-glued c =
-    let scaled = is_scaled c.args.shape.now c.in_ok-scaled.scaled.den c.in_ok-scaled.scaled.polygons c.in_ok-scaled.ensures.passed c.in_ok-scaled.ensures.den c.in_ok-scaled.ensures.polygons c.in_ok-scaled.ensures.positive c.in_ok-scaled.ensures.within in
+    let scaled = scaled_of (goal.at.check_reached-requires-clause-glued c).In_ok-scaled in
     let p = get corner_cmp c.in_ok-partners.partners in
-    let paired = paired_by c.args.field.d c.in_ok-scaled.scaled.polygons _ _ p c.as_slice.ensures c.in_ok-places.ensures.passed c.in_ok-partners.ensures.passed c.in_ok-partners.ensures.paired c.in_ok-glued.ensures.passed in
+    let paired = paired_of (goal.at.check_reached-requires-clause-glued c).In_ok-glued in
     glued_sides_of c.args.field.d c.args.shape.now c.in_ok-scaled.scaled.den c.in_ok-scaled.scaled.polygons scaled p paired c.in_ok-glued.glued c.in_ok-glued.ensures.glued
 
 pub returns-in_err-check_reached : goal.returns-in_err-check_reached
 returns-in_err-check_reached c =
-    let scaled = is_scaled c.args.shape.now c.in_ok-scaled.scaled.den c.in_ok-scaled.scaled.polygons c.in_ok-scaled.ensures.passed c.in_ok-scaled.ensures.den c.in_ok-scaled.ensures.polygons c.in_ok-scaled.ensures.positive c.in_ok-scaled.ensures.within in
+    let scaled = scaled_of (goal.at.returns-in_err-check_reached c).In_ok-scaled in
     let p = get corner_cmp c.in_ok-partners.partners in
-    let paired = paired_by c.args.field.d c.in_ok-scaled.scaled.polygons _ _ p c.as_slice.ensures c.in_ok-places.ensures.passed c.in_ok-partners.ensures.passed c.in_ok-partners.ensures.paired c.in_ok-glued.ensures.passed in
+    let paired = paired_of (goal.at.returns-in_err-check_reached c).In_ok-glued in
     let judged = at_exit (Judges c.args.field.d c.args.shape.now) c.from_residual-in_err-check_reached.result c.in_err-check_reached.field-0.0 c.from_residual-in_err-check_reached.ensures.1
     (apart_rows c.args.field.d c.args.shape.now c.in_ok-scaled.scaled.den c.in_ok-scaled.scaled.polygons scaled p paired c.in_ok-glued.glued c.in_ok-glued.ensures.glued _ c.in_err-check_reached.ensures.failed) in
     record { judged = judged; first = first_from_judged c.args.field.d c.args.shape.now _ judged }
 
 pub new-requires : goal.new-requires
 new-requires c =
-    let scaled = is_scaled c.args.shape.now c.in_ok-scaled.scaled.den c.in_ok-scaled.scaled.polygons c.in_ok-scaled.ensures.passed c.in_ok-scaled.ensures.den c.in_ok-scaled.ensures.polygons c.in_ok-scaled.ensures.positive c.in_ok-scaled.ensures.within in
+    let scaled = scaled_of (goal.at.new-requires c).In_ok-scaled in
     let p = get corner_cmp c.in_ok-partners.partners in
-    let paired = paired_by c.args.field.d c.in_ok-scaled.scaled.polygons _ _ p c.as_slice.ensures c.in_ok-places.ensures.passed c.in_ok-partners.ensures.passed c.in_ok-partners.ensures.paired c.in_ok-glued.ensures.passed in
+    let paired = paired_of (goal.at.new-requires c).In_ok-glued in
     let near = near_rows c.args.field.d c.args.shape.now c.in_ok-scaled.scaled.den c.in_ok-scaled.scaled.polygons scaled p paired c.in_ok-glued.glued c.in_ok-glued.ensures.glued c.in_ok-check_reached.ensures.passed in
     record {
       surface = surface_is c.args.field.d c.args.shape.now c.in_ok-scaled.scaled.den c.in_ok-scaled.scaled.polygons scaled p paired c.in_ok-glued.glued c.args.field.radicand c.requires near c.in_ok-glued.ensures.glued;
@@ -99,9 +106,9 @@ new-requires c =
 
 pub returns : goal.returns
 returns c =
-    let scaled = is_scaled c.args.shape.now c.in_ok-scaled.scaled.den c.in_ok-scaled.scaled.polygons c.in_ok-scaled.ensures.passed c.in_ok-scaled.ensures.den c.in_ok-scaled.ensures.polygons c.in_ok-scaled.ensures.positive c.in_ok-scaled.ensures.within in
+    let scaled = scaled_of (goal.at.returns c).In_ok-scaled in
     let p = get corner_cmp c.in_ok-partners.partners in
-    let paired = paired_by c.args.field.d c.in_ok-scaled.scaled.polygons _ _ p c.as_slice.ensures c.in_ok-places.ensures.passed c.in_ok-partners.ensures.passed c.in_ok-partners.ensures.paired c.in_ok-glued.ensures.passed in
+    let paired = paired_of (goal.at.returns c).In_ok-glued in
     let near = near_rows c.args.field.d c.args.shape.now c.in_ok-scaled.scaled.den c.in_ok-scaled.scaled.polygons scaled p paired c.in_ok-glued.glued c.in_ok-glued.ensures.glued c.in_ok-check_reached.ensures.passed in
     let judged = built c.args.field.d c.args.shape.now c.in_ok-scaled.scaled.den c.in_ok-scaled.scaled.polygons scaled p paired c.new.result c.args.field.radicand c.requires near
     (c.new.ensures ∙ ap (λ rows. record { d = c.args.field.d; den = passed_on c.in_ok-scaled.scaled.den; polygons = rows }) c.in_ok-glued.ensures.glued) in

@@ -2,9 +2,8 @@
 use Rattle.std.proofs.Common.{◌≡◌, sym, subst, length, arith}
 use Rattle.fs_stratum.specs.Found.{AreFoundBefore}
 use Rattle.fs_stratum.proofs.Sides.{corner}
-use Rattle.fs_stratum.proofs.Found.{found_none, found_all, found_total}
-use Rattle.fs_stratum.proofs.EulerSum.{has_genus}
-use Rattle.fs_stratum.proofs.Parity.{even_together}
+use Rattle.fs_stratum.proofs.Found.{found_none, found_all}
+use Rattle.fs_stratum.proofs.SomeGenus.{genus_of_cones}
 use Rattle.fs_stratum.proofs.cones.classes.Goals as goal
 
 pub loop-i-init : goal.loop-i-init
@@ -16,9 +15,4 @@ returns-clause-cones c =
     found_all c.args.surface.now c.loop-i.i c.loop-i.marks c.loop-i.cones c.loop-i.invariant end
 
 pub returns-clause-genus : goal.returns-clause-genus
-returns-clause-genus c =
-    let end : c.loop-i.i ≡ length c.args.surface.now.polygons = omega arith in
-    let cones = found_all c.args.surface.now c.loop-i.i c.loop-i.marks c.loop-i.cones c.loop-i.invariant end in
-    has_genus c.args.surface.now c.polygons-i-end.ensures.surface c.loop-i.cones c.loop-i.invariant.positive
-    (found_total c.args.surface.now c.loop-i.i c.loop-i.marks c.loop-i.cones c.loop-i.invariant end)
-    (even_together c.args.surface.now c.polygons-i-end.ensures.surface c.loop-i.cones cones)
+returns-clause-genus c = genus_of_cones c.args.surface.now c.polygons-i-end.ensures.surface c.loop-i.cones (returns-clause-cones c)

@@ -1,6 +1,10 @@
-use Rattle.std.proofs.Common.{◌≡◌, ◌+◌, take, sum_by}
+-- As much as is gone through is counted, of vertices that have a genus.
+use Rattle.std.proofs.Common.{◌≡◌, ℕ, ◌+◌, take, sum_by}
+use Rattle.fs_gluing.specs.Surface.{GluedPolygons, IsSurface}
 use Rattle.fs_stratum.specs.declared.cones.Cone.{Cone}
+use Rattle.fs_stratum.specs.Cones.{HasGenus}
 use Rattle.fs_stratum.proofs.cones.genus.Given as goal
 
 abbrev pub invariant-loop-cone : goal.invariant-loop-cone
-invariant-loop-cone l = l.twice + l.cone-index ≡ 2 + sum_by (λ (cone : Cone). cone.k) (take l.cone-index l.cones)
+invariant-loop-cone l =
+    (l.twice + l.cone-index ≡ 2 + sum_by (λ (cone : Cone). cone.k) (take l.cone-index l.cones)) × ((s : GluedPolygons) × IsSurface s × ((g : ℕ) × HasGenus s l.cones g))
