@@ -20,7 +20,7 @@ const SQUARE: [&str; 7] = [
 
 // What is in the place of one of its lines, numbered from 1, and what comes of it. A fault that has
 // a line is that of this one.
-static CHANGES: [(usize, &str, &str); 119] = [
+static CHANGES: [(usize, &str, &str); 124] = [
     (1, "Flatsurf 1", "BadHeader"),
     (1, "flatsurf 1 1", "BadHeader"),
     (1, "flatsurf 3", "BadHeader"),
@@ -138,7 +138,12 @@ static CHANGES: [(usize, &str, &str); 119] = [
     (6, "chek", "BadLine"),
     (6, "close", "BadLine"),
     (6, "flow 1,0", "BadLine"),
-    (6, "stratum", "BadLine"),
+    (6, "Stratum", "BadLine"),
+    (6, "stratum 1", "BadLine"),
+    (6, "strata", "BadLine"),
+    (6, "delaunay", "BadLine"),
+    (6, "stratum", "read"),
+    (6, "\tstratum \r", "read"),
     (6, "won top 1", "BadLine"),
     (6, "check\x00", "NotAscii"),
     (6, " check", "read"),
@@ -698,6 +703,15 @@ fn sites_as_they_are_printed(rt: HostRuntime) -> Result<(), Fail> {
             },
             "corner 10 0 3",
         ),
+        (
+            Site::Area {
+                polygon: 3,
+                corner: 20,
+                place: 4,
+            },
+            "area 3 20 4",
+        ),
+        (Site::AreaScale { place: 2 }, "areascale 2"),
     ];
     for (site, text) in rows {
         let printed = print_site(rt.alloc(), &site).ok().ok_or("no memory")?;

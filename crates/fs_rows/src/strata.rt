@@ -93,17 +93,21 @@ fn squares(rt: HostRuntime) -> Result<(), Fail> {
 // the area of both is 2·256·(256² - 1)/3.
 #[test]
 fn two_large_polygons(rt: HostRuntime) -> Result<(), Fail> {
-    let mut polygon = format!(in rt.alloc(); "polygon")?;
-    for (x, sign) in [("1", ""), ("-1", "-")] {
-        for j in 0..256 {
-            let rise = if sign.is_empty() { j - 128 } else { 128 - j };
-            write!(polygon, " {x},{rise}")?;
+    let mut lines = String::new(rt.alloc());
+    for _ in 0..2 {
+        lines.push_str("polygon")?;
+        for rise in -128..128 {
+            write!(lines, " 1,{rise}")?;
         }
+        for rise in (-127..129).rev() {
+            write!(lines, " -1,{rise}")?;
+        }
+        lines.push_str("\n")?;
     }
-    let mut lines = format!(in rt.alloc(); "{polygon}\n{polygon}\n")?;
-    for j in 0..512 {
-        let opposite = if j < 256 { j + 256 } else { j - 256 };
-        writeln!(lines, "glue 0.{j} 1.{opposite}")?;
+    for j in 0..256 {
+        let across = j + 256;
+        writeln!(lines, "glue 0.{j} 1.{across}")?;
+        writeln!(lines, "glue 0.{across} 1.{j}")?;
     }
     expect(
         &rt,
