@@ -126,10 +126,6 @@ module _ {X : Type 0} (decide : IsDecidable X) {xs : List X} (a b : X) (apart : 
       abbrev IsNear : X → Type 0
       IsNear x = LeadsTo f a x ⊎ LeadsTo f b x
 
-      near_symm : (x : X) → IsNear x → LeadsTo f x a ⊎ LeadsTo f x b
-      near_symm x (inl k) = inl (leads_symm decide P a x ha k)
-      near_symm x (inr k) = inr (leads_symm decide P b x hb k)
-
       near_before : (x y : X) → IsIn x xs → LeadsTo f x y → IsNear y → IsNear x
       near_before x y h k (inl l) = inl (leads_trans f a y x l (leads_symm decide P x y h k))
       near_before x y h k (inr l) = inr (leads_trans f b y x l (leads_symm decide P x y h k))

@@ -34,9 +34,6 @@ module _ {X : Type 0} (f : X → X) where
   pub leads_refl : (x : X) → LeadsTo f x x
   leads_refl x = (0, refl)
 
-  pub leads_step : (x : X) → LeadsTo f x (f x)
-  leads_step x = (1, refl)
-
   pub leads_trans : (x y z : X) → LeadsTo f x y → LeadsTo f y z → LeadsTo f x z
   leads_trans x y z h k = (h.0 + k.0, iterate-add h.0 k.0 x ∙ ap (iterate f k.0) h.1 ∙ k.1)
 

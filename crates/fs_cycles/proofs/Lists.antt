@@ -1,14 +1,7 @@
 -- Items of lists that are joined, mapped or counted out; and the words of std for them.
-use Rattle.std.proofs.Common.{◌≡◌, ℕ, zero, suc, ◌+◌, ◌<◌, ◌≤◌, ◌⊎◌, Bool, true, false, Decides, List, [], ◌∷◌, ◌++◌, map, length, get_or, Contains, refl, sym, ap, subst, inl, inr, arith, true≢false}
+use Rattle.std.proofs.Common.{◌≡◌, ℕ, zero, suc, ◌+◌, ◌<◌, ◌≤◌, ◌⊎◌, List, [], ◌∷◌, ◌++◌, map, length, get_or, Contains, refl, sym, ap, subst, inl, inr, arith}
 use Rattle.std.specs.List.{range_with_len}
-use Rattle.fs_cycles.specs.Cycles.{IsIn, AreApart, IsDecidable}
-
-decidable_by : {P : Type 0} (b : Bool) → Decides b P → P ⊎ ¬ P
-decidable_by true h = inl (h.0 refl)
-decidable_by false h = inr (λ p. true≢false (sym (h.1 p)))
-
-pub decidable : {X : Type 0} (test : X → X → Bool) → ((x y : X) → Decides (test x y) (x ≡ y)) → IsDecidable X
-decidable test decides x y = decidable_by (test x y) (decides x y)
+use Rattle.fs_cycles.specs.Cycles.{IsIn, AreApart}
 
 module _ {X : Type 0} where
   in_at : (x : X) (xs : List X) (k : ℕ) → k < length xs → get_or xs k x ≡ x → IsIn x xs
@@ -18,11 +11,6 @@ module _ {X : Type 0} where
 
   pub in_of_contains : (x : X) (xs : List X) → Contains xs x → IsIn x xs
   in_of_contains x xs h = in_at x xs h.0 h.1 h.2
-
-  pub contains_of_in : (x : X) (xs : List X) → IsIn x xs → Contains xs x
-  contains_of_in x [] h = absurd h
-  contains_of_in x (y ∷ ys) (inl e) = (0, omega arith, sym e)
-  contains_of_in x (y ∷ ys) (inr h) = let r = contains_of_in x ys h in (suc r.0, omega (arith, r.1), r.2)
 
   pub in_append_left : (x : X) (xs ys : List X) → IsIn x xs → IsIn x (xs ++ ys)
   in_append_left x [] ys h = absurd h

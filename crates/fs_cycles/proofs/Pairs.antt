@@ -253,10 +253,6 @@ module _ {X : Type 0} (decide : IsDecidable X) where
       let smaller = made n (fewer a rest D P) (omega (arith, length-without _ rest (partner_in a rest D P))) (fewer_distinct a rest D P) (fewer_pairs a rest D P) in
       (_, made_more a rest D P smaller.0 smaller.1)
 
-  -- the items that are joined in pairs are even in number
-  pub half_of_pairs : {s : X → X} {xs : List X} → IsDistinct xs → Pairs s xs → (e : ℕ) × (2 * e ≡ length xs)
-  half_of_pairs {s} {xs} D P = let M = made (length xs) xs (omega arith) D P in (length M.0, M.1.half)
-
   -- what is followed by pairs permutes the items too
   pub permutes_followed : {f s h : X → X} {xs : List X} → FollowedByPairs f s h xs → Permutes h xs
   permutes_followed {f} {s} {h} {xs} F =

@@ -1,5 +1,5 @@
 -- Words that are pairs.
-use Rattle.std.proofs.Common.{◌≡◌, ◌≢◌, ℕ, ◌+◌, List, [], ◌∷◌, ◌++◌, eqb, length, refl, sym, ap, ◌∙◌, subst, arith, append_assoc, append-nil, length-append}
+use Rattle.std.proofs.Common.{◌≡◌, ◌≢◌, ℕ, ◌+◌, List, [], ◌∷◌, ◌++◌, eqb, length, refl, sym, ap, ◌∙◌, subst, arith, append_assoc, length-append}
 use Rattle.fs_job.specs.Pieces.{pieces}
 use Rattle.fs_job.specs.Statement.{Pair, IsPair, ArePairs}
 use Rattle.fs_job.specs.Line.{pair_of_pieces, pair_of, pairs_of}
@@ -21,9 +21,6 @@ pub record PairsBefore (words rest : List (List ℕ)) (count : ℕ) : Type 0 whe
   pub pairs : ArePairs before (pairs_of before)
   pub counted : count ≡ length before
 
-pub no_pairs_before : (words : List (List ℕ)) → PairsBefore words words 0
-no_pairs_before words = record { before = []; whole = refl; pairs = tt; counted = refl }
-
 pub pairs_more : (before : List (List ℕ)) (word : List ℕ) → ArePairs before (pairs_of before) → IsPair word (pair_of word) → ArePairs (before ++ word ∷ []) (pairs_of (before ++ word ∷ []))
 pairs_more [] word all pair = (pair, tt)
 pairs_more (w ∷ ws) word all pair = (all.0, pairs_more ws word all.1 pair)
@@ -35,11 +32,6 @@ one_pair_more words old rest word count p e pair = record {
   pairs = pairs_more p.before word p.pairs pair;
   counted = let counted = p.counted in omega (arith, length-append p.before (word ∷ []));
 }
-
-pub all_pairs : (words old : List (List ℕ)) (count : ℕ) → PairsBefore words old count → old ≡ [] → ArePairs words (pairs_of words) × (count ≡ length words)
-all_pairs words old count p e =
-    let same : p.before ≡ words = sym (p.whole ∙ (ap (λ (ws : List (List ℕ)). p.before ++ ws) e ∙ append-nil p.before)) in
-    (subst (λ (ws : List (List ℕ)). ArePairs ws (pairs_of ws)) same p.pairs, p.counted ∙ ap length same)
 
 -- a word that is no pair
 none_from : (before rest : List (List ℕ)) (word : List ℕ) → ((x y : List ℕ) → pieces (λ b. eqb b 44) word ≢ x ∷ y ∷ []) → (pairs : List Pair) → ArePairs (before ++ word ∷ rest) pairs → ⊥

@@ -1,5 +1,5 @@
 -- The numbers of a polygon line, read from left to right.
-use Rattle.std.proofs.Common.{◌≡◌, ◌≢◌, ℕ, List, [], ◌∷◌, ◌++◌, Option, None, Some, MatchOption, unwrap_or, Ok, Err, eqb, length, refl, sym, ap, ◌∙◌, subst, append_assoc, append-nil, arith}
+use Rattle.std.proofs.Common.{◌≡◌, ◌≢◌, ℕ, List, [], ◌∷◌, ◌++◌, Option, None, Some, MatchOption, unwrap_or, Ok, Err, eqb, length, refl, sym, ap, ◌∙◌, subst, append_assoc, arith}
 use denote.Ref.{Bor}
 use Rattle.std.specs.List.{AllByRecursion}
 use Rattle.fs_fraction.specs.Fraction.{Fraction}
@@ -64,9 +64,6 @@ pub record PointsBefore (words rest : List (List ℕ)) (points : List Point) : T
   pub whole : words ≡ before ++ rest
   pub spelled : ArePoints (pairs_of before) points
 
-pub no_points_before : (words : List (List ℕ)) → PointsBefore words words []
-no_points_before words = record { before = []; whole = refl; spelled = tt }
-
 points_more : (before : List (List ℕ)) (word : List ℕ) (points : List Point) (point : Point) → ArePoints (pairs_of before) points
     → Reads (pair_of word).x (Ok point.x) × Reads (pair_of word).y (Ok point.y) → ArePoints (pairs_of (before ++ word ∷ [])) (points ++ point ∷ [])
 points_more [] word [] point all read = (read.0, read.1, tt)
@@ -81,11 +78,6 @@ one_point_more words old rest word points point p e read = record {
   whole = p.whole ∙ (ap (λ (ws : List (List ℕ)). p.before ++ ws) e ∙ sym (append_assoc p.before (word ∷ []) rest));
   spelled = points_more p.before word points point p.spelled read;
 }
-
-pub all_points : (words old : List (List ℕ)) (points : List Point) → PointsBefore words old points → old ≡ [] → ArePoints (pairs_of words) points
-all_points words old points p e =
-    let same : p.before ≡ words = sym (p.whole ∙ (ap (λ (ws : List (List ℕ)). p.before ++ ws) e ∙ append-nil p.before)) in
-    subst (λ (ws : List (List ℕ)). ArePoints (pairs_of ws) points) same p.spelled
 
 -- the next word is a pair
 pair_at : (before rest : List (List ℕ)) (word : List ℕ) → ArePairs (before ++ word ∷ rest) (pairs_of (before ++ word ∷ rest)) → IsPair word (pair_of word)

@@ -1,11 +1,10 @@
 -- Words show one statement at most, and which words show none.
-use Rattle.std.proofs.Common.{◌≡◌, ◌≢◌, ℕ, List, [], ◌∷◌, eqb, refl, sym, ap, ◌∙◌, subst, arith}
+use Rattle.std.proofs.Common.{◌≡◌, ◌≢◌, ℕ, List, [], ◌∷◌, refl, sym, ap, ◌∙◌, subst, arith}
 use Rattle.std.specs.Prelude.{codes, if◌then◌else◌}
 use Rattle.std.specs.Str.{bytes_eq}
 use Rattle.fs_plane.specs.declared.corners.Corner.{Corner}
 use Rattle.fs_job.specs.declared.job.Command.{Command}
 use Rattle.fs_job.specs.declared.job.Command.TheVariants.{Check, Stratum}
-use Rattle.fs_job.specs.Pieces.{pieces}
 use Rattle.fs_job.specs.Statement.{SpellsNumeral, SpellsCorner, ArePairs, Statement, Field_line, Polygon_line, Glue_line, Command_line, End_line, Shows}
 use Rattle.fs_job.specs.Line.{ShowsField, ShowsGlue}
 use Rattle.fs_job.proofs.Lists.{heads_equal, tails_equal}
@@ -23,37 +22,13 @@ unique_corner text c e s t =
     let side = numeral_along 4 s.side_text t.side_text c.side e.side two s.side t.side in
     ap (λ (n : ℕ). record { polygon = n; side = c.side }) polygon ∙ ap (λ (n : ℕ). record { polygon = e.polygon; side = n }) side
 
-pub no_corner : (text : List ℕ) → ((x y : List ℕ) → pieces (λ b. eqb b 46) text ≢ x ∷ y ∷ []) → (c : Corner) → ¬ SpellsCorner text c
-no_corner text none c s = none s.polygon_text s.side_text s.whole
-
-pub no_corner_polygon : (text x y : List ℕ) → pieces (λ b. eqb b 46) text ≡ x ∷ y ∷ [] → ((n : ℕ) → ¬ SpellsNumeral 4 x n) → (c : Corner) → ¬ SpellsCorner text c
-no_corner_polygon text x y e none c s =
-    none c.polygon (subst (λ u. SpellsNumeral 4 u c.polygon) (heads_equal s.polygon_text x (s.side_text ∷ []) (y ∷ []) (sym s.whole ∙ e)) s.polygon)
-
-pub no_corner_side : (text x y : List ℕ) → pieces (λ b. eqb b 46) text ≡ x ∷ y ∷ [] → ((n : ℕ) → ¬ SpellsNumeral 4 y n) → (c : Corner) → ¬ SpellsCorner text c
-no_corner_side text x y e none c s =
-    none c.side (subst (λ u. SpellsNumeral 4 u c.side)
-    (heads_equal s.side_text y [] [] (tails_equal s.polygon_text x (s.side_text ∷ []) (y ∷ []) (sym s.whole ∙ e))) s.side)
-
 -- ---- the words behind the first one
 
 only_one : (word word' : List ℕ) (words : List (List ℕ)) → words ≡ word ∷ [] → words ≡ word' ∷ [] → word ≡ word'
 only_one word word' words e f = heads_equal word word' [] [] (sym e ∙ f)
 
-pub no_digits : (words : List (List ℕ)) (word : List ℕ) → words ≡ word ∷ [] → ((d : ℕ) → ¬ SpellsNumeral 4 word d) → (d : ℕ) → ¬ ShowsField words d
-no_digits words word e none d s = none d (subst (λ u. SpellsNumeral 4 u d) (only_one s.0 word words s.1 e) s.2)
-
 glue_words : (words rest : List (List ℕ)) (word one two : List ℕ) → words ≡ word ∷ rest → words ≡ one ∷ two ∷ [] → (one ≡ word) × (rest ≡ two ∷ [])
 glue_words words rest word one two e f = (heads_equal one word (two ∷ []) rest (sym f ∙ e), sym (tails_equal one word (two ∷ []) rest (sym f ∙ e)))
-
-no_two : (one two : List ℕ) → ◌≢◌ {A = List (List ℕ)} [] (one ∷ two ∷ [])
-no_two one two e = cc
-
-pub no_glue_words : (words : List (List ℕ)) → words ≡ [] → (one two : Corner) → ¬ ShowsGlue words one two
-no_glue_words words e one two s = no_two s.0 s.1 (sym e ∙ s.2)
-
-pub no_glue_second : (words rest : List (List ℕ)) (word : List ℕ) → words ≡ word ∷ rest → ((last : List ℕ) → rest ≢ last ∷ []) → (one two : Corner) → ¬ ShowsGlue words one two
-no_glue_second words rest word e none one two s = none s.1 (glue_words words rest word s.0 s.1 e s.2).1
 
 pub no_glue_one : (words rest : List (List ℕ)) (word : List ℕ) → words ≡ word ∷ rest → ((c : Corner) → ¬ SpellsCorner word c) → (one two : Corner) → ¬ ShowsGlue words one two
 no_glue_one words rest word e none one two s = none one (subst (λ u. SpellsCorner u one) (glue_words words rest word s.0 s.1 e s.2).0 s.3)
