@@ -2,9 +2,11 @@
 use Rattle.std.proofs.Common.{◌≡◌, ℕ, zero, suc, ◌+◌, ◌*◌, ◌<◌, List, map, length, refl, sym, ap, ◌∙◌, subst, arith}
 use Rattle.std.specs.List.{range_with_len}
 use Rattle.std.proofs.lemmas.List.FromFn.{length-map-range_with_len}
-use Rattle.fs_cycles.specs.Cycles.{IsIn, Permutes, FollowedByPairs, Represents, iterate, LeadsTo, IsDecidable}
+use Rattle.fs_cycles.specs.Cycles.{Permutes, FollowedByPairs, Represents, iterate, LeadsTo}
+use Rattle.fs_lists.specs.Members.{IsIn, IsDecidable}
 use Rattle.fs_cycles.specs.Blocks.{StepsBack}
-use Rattle.fs_cycles.proofs.Lists.{in_map, in_map_cases, apart_map, in_range, range_bounds, range_distinct}
+use Rattle.fs_lists.proofs.Members.{in_map, in_map_cases, apart_map}
+use Rattle.fs_lists.proofs.Ranges.{in_range, range_bounds, range_distinct}
 use Rattle.fs_cycles.proofs.Iterates.{leads_symm}
 use Rattle.fs_cycles.proofs.Pairs.{even_with_pairs}
 

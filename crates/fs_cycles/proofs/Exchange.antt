@@ -1,7 +1,8 @@
 -- A permutation followed by the exchange of two items has one cycle more, or one fewer.
 use Rattle.std.proofs.Common.{◌≡◌, ◌≢◌, ℕ, zero, suc, ◌%◌, ◌<◌, ◌⊎◌, List, length, refl, sym, ap, ◌∙◌, subst, inl, inr, arith, mod-lt, zero-lt-suc}
-use Rattle.fs_cycles.specs.Cycles.{IsIn, Permutes, Represents, iterate, LeadsTo, IsDecidable}
-use Rattle.fs_cycles.proofs.Members.{without, length-without, in_without, without_or, apart_without, apart_by, apart_from}
+use Rattle.fs_cycles.specs.Cycles.{Permutes, Represents, iterate, LeadsTo}
+use Rattle.fs_lists.specs.Members.{IsIn, IsDecidable}
+use Rattle.fs_lists.proofs.Removal.{without, length-without, in_without, without_or, apart_without, apart_by, apart_from}
 use Rattle.fs_cycles.proofs.Iterates.{first_below, iterate_after, iterate-mod, leads_refl, leads_trans, iterate_in, returns, leads_symm}
 use Rattle.fs_cycles.proofs.Representatives.{same_length}
 

@@ -1,7 +1,8 @@
 -- A map taken many times: on a finite list a permutation returns, so that its cycles are classes, and it can be decided which items are of one.
 use Rattle.std.proofs.Common.{◌≡◌, ◌≢◌, ℕ, zero, suc, ◌+◌, ◌*◌, ◌/◌, ◌%◌, ◌<◌, ◌⊎◌, List, [], ◌∷◌, length, refl, sym, ap, ◌∙◌, subst, inl, inr, arith, zero-add, suc-add, zero-mul, suc-mul, div-add-mod', mod-lt, zero-lt-suc}
-use Rattle.fs_cycles.specs.Cycles.{IsIn, AreApart, Permutes, iterate, LeadsTo, IsDecidable}
-use Rattle.fs_cycles.proofs.Members.{at_most_partners}
+use Rattle.fs_cycles.specs.Cycles.{Permutes, iterate, LeadsTo}
+use Rattle.fs_lists.specs.Members.{IsIn, AreApart, IsDecidable}
+use Rattle.fs_lists.proofs.Removal.{at_most_partners}
 
 -- the first number below n with P, or none
 abbrev pub FirstBelow : (ℕ → Type 0) → ℕ → Type 0

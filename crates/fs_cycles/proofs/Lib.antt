@@ -1,5 +1,3 @@
-pub mod Members
-pub mod Lists
 pub mod Iterates
 pub mod Representatives
 pub mod Exchange

@@ -1,7 +1,8 @@
 -- A permutation and the same followed by a joining of the items in pairs: the numbers of their cycles and of the pairs have an even sum.
 use Rattle.std.proofs.Common.{◌≡◌, ◌≢◌, ℕ, zero, suc, ◌+◌, ◌*◌, ◌≤◌, ◌⊎◌, List, [], ◌∷◌, length, refl, sym, ap, ◌∙◌, subst, inl, inr, arith}
-use Rattle.fs_cycles.specs.Cycles.{IsIn, IsDistinct, Permutes, Pairs, FollowedByPairs, Represents, iterate, LeadsTo, IsDecidable}
-use Rattle.fs_cycles.proofs.Members.{without, length-without, in_without, without_or, apart_without, apart_from, apart_by}
+use Rattle.fs_cycles.specs.Cycles.{Permutes, Pairs, FollowedByPairs, Represents, iterate, LeadsTo}
+use Rattle.fs_lists.specs.Members.{IsIn, IsDistinct, IsDecidable}
+use Rattle.fs_lists.proofs.Removal.{without, length-without, in_without, without_or, apart_without, apart_from, apart_by}
 use Rattle.fs_cycles.proofs.Iterates.{iterate_after, iterate_in}
 use Rattle.fs_cycles.proofs.Representatives.{representatives, same_length}
 use Rattle.fs_cycles.proofs.Exchange.{IsExchanged, exchanged}

@@ -1,7 +1,8 @@
 -- Every permutation of a finite list has a list that represents its cycles, and all such lists are equally long.
 use Rattle.std.proofs.Common.{◌≡◌, ◌≤◌, ◌⊎◌, List, [], ◌∷◌, length, refl, sym, subst, inl, inr, arith}
-use Rattle.fs_cycles.specs.Cycles.{IsIn, AreApart, Permutes, Represents, LeadsTo, IsDecidable}
-use Rattle.fs_cycles.proofs.Members.{at_most_partners}
+use Rattle.fs_cycles.specs.Cycles.{Permutes, Represents, LeadsTo}
+use Rattle.fs_lists.specs.Members.{IsIn, AreApart, IsDecidable}
+use Rattle.fs_lists.proofs.Removal.{at_most_partners}
 use Rattle.fs_cycles.proofs.Iterates.{leads_refl, leads_trans, leads_symm, decide_leads}
 
 module _ {X : Type 0} {f : X → X} {xs : List X} (decide : IsDecidable X) (P : Permutes f xs) where

@@ -1,6 +1,6 @@
 -- Permutations that step back through numbered blocks.
 use Rattle.std.specs.Prelude.{◌≡◌, ℕ, suc, ◌<◌, List}
-use Rattle.fs_cycles.specs.Cycles.{IsIn}
+use Rattle.fs_lists.specs.Members.{IsIn}
 
 module _ {X : Type 0} where
   -- f stays in each of n blocks, and steps there from each place to the one before, down to the head at place 0

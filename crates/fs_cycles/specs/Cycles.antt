@@ -1,25 +1,8 @@
 -- Permutations of a finite list, and lists that represent their cycles.
-use Rattle.std.specs.Prelude.{◌≡◌, ◌≢◌, ℕ, zero, suc, ◌⊎◌, List, [], ◌∷◌}
-
--- of two items it can be decided whether they are equal
-abbrev pub IsDecidable : Type 0 → Type 0
-IsDecidable X = (x y : X) → (x ≡ y) ⊎ (x ≢ y)
+use Rattle.std.specs.Prelude.{◌≡◌, ◌≢◌, ℕ, zero, suc, List}
+use Rattle.fs_lists.specs.Members.{IsIn, AreApart, IsDistinct}
 
 module _ {X : Type 0} where
-  -- x stands in the list
-  abbrev pub IsIn : X → List X → Type 0
-  IsIn x [] = ⊥
-  IsIn x (y ∷ ys) = (x ≡ y) ⊎ IsIn x ys
-
-  -- no item of the list stands in the relation to a later one
-  abbrev pub AreApart : (X → X → Type 0) → List X → Type 0
-  AreApart R [] = Unit {0}
-  AreApart R (x ∷ xs) = ((y : X) → IsIn y xs → ¬ R x y) × AreApart R xs
-
-  -- no item stands twice
-  abbrev pub IsDistinct : List X → Type 0
-  IsDistinct xs = AreApart (λ x y. x ≡ y) xs
-
   -- f permutes the items: it maps items to items, and no two to one
   pub record Permutes (f : X → X) (xs : List X) : Type 0 where
     pub inside : (x : X) → IsIn x xs → IsIn (f x) xs

@@ -5,7 +5,8 @@ use Rattle.std.specs.List.{AllByRecursion}
 use Rattle.std.specs.Str.Parse.{IsNumeral}
 use Rattle.fs_fraction.specs.Number.{Quotient, Written, Rational, Root, Both, Spells, quotient_text, under_text, under_runs, sign_text, joint_text}
 use Rattle.fs_fraction.specs.Parts.{IsDigit, Stops, BeginsNumeral, IsQuotient, Ends, Begins, SpellsSecond}
-use Rattle.fs_fraction.proofs.Numerals.{same_digits, heads_equal, tails_equal}
+use Rattle.fs_fraction.proofs.Numerals.{same_digits}
+use Rattle.fs_lists.proofs.Equal.{heads_equal, tails_equal}
 
 quotient_eq : {a b : Quotient} → a.over ≡ b.over → a.under ≡ b.under → a ≡ b
 quotient_eq e f = λ i. record { over = e i; under = f i }

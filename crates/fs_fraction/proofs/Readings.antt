@@ -10,7 +10,7 @@ use Rattle.std.specs.Option.{SomeIff, ok_or}
 use Rattle.fs_quadratic.specs.Ring.{Quadratic}
 use Rattle.fs_quadratic.specs.Width.{InWidth}
 use Rattle.fs_quadratic.proofs.Laws.{quadratic_eq}
-use Rattle.fs_quadratic.proofs.Firsts.{All-append}
+use Rattle.fs_lists.proofs.All.{All-append}
 use Rattle.fs_fraction.specs.declared.number.NumberFault.{NumberFault}
 use Rattle.fs_fraction.specs.declared.number.NumberFault.TheVariants.{BadNumber}
 use Rattle.fs_fraction.specs.Fraction.{Fraction, reduced}

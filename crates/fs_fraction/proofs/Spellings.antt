@@ -12,7 +12,7 @@ use Rattle.std.specs.Str.Parse.{IsNumeral, digits_value}
 use Rattle.fs_ring.proofs.Integers.{integer_ring}
 use Rattle.fs_ring.proofs.Solver.{identity, numeral, ◌⊗◌, ◌≐◌}
 use Rattle.fs_quadratic.specs.Width.{Fits}
-use Rattle.fs_quadratic.proofs.Firsts.{All-append}
+use Rattle.fs_lists.proofs.All.{All-append}
 use Rattle.fs_quadratic.proofs.Laws.{quadratic_eq}
 use Rattle.fs_fraction.specs.Divisor.{gcd}
 use Rattle.fs_fraction.specs.Fraction.{Fraction, IsLowest}

@@ -6,13 +6,12 @@ use Rattle.fs_quadratic.specs.Ring.{Quadratic, add, sub, mul}
 use Rattle.fs_quadratic.specs.Width.{Fits, MulFits, is_fitting, is_fitting_mul}
 use Rattle.fs_quadratic.proofs.WidthTests.{Decides-is_fitting, Decides-is_fitting_mul}
 use Rattle.fs_plane.specs.declared.sites.Place.{Place}
-use Rattle.fs_plane.specs.declared.vector.V2.{V2}
-use Rattle.fs_plane.specs.Vector.{cross, dot, norm}
+use Rattle.fs_plane.specs.Vector.{PlaneVector, cross, dot, norm}
 use Rattle.fs_plane.specs.Checked.{shifted, IsFirstOfThree}
 use Rattle.fs_plane.specs.Formulas.{cross_after, dot_after, norm_after, CrossFits, DotFits}
 use Rattle.fs_plane.proofs.Steps.{chain_ok, chain_stops, chain-shifted}
 
-module _ (before d : ℕ) (a b : V2) where
+module _ (before d : ℕ) (a b : PlaneVector) where
   -- ---- the cross product
 
   pub cross_ok : OkIff (cross_after before d a b) (CrossFits d a b) (cross d a b)
@@ -56,26 +55,26 @@ module _ (before d : ℕ) (a b : V2) where
 
 -- ---- the squared length
 
-pub norm_value : (before d : ℕ) (a : V2) (value : Quadratic) → norm_after before d a ≡ Ok value → value ≡ norm d a
+pub norm_value : (before d : ℕ) (a : PlaneVector) (value : Quadratic) → norm_after before d a ≡ Ok value → value ≡ norm d a
 unfolding norm_after
 norm_value before d a value e = dot_value before d a a value e
 
-pub norm_fits : (before d : ℕ) (a : V2) → DotFits d a a → norm_after before d a ≡ Ok (norm d a)
+pub norm_fits : (before d : ℕ) (a : PlaneVector) → DotFits d a a → norm_after before d a ≡ Ok (norm d a)
 unfolding norm_after
 norm_fits before d a h = dot_fits before d a a h
 
 -- ---- after other steps the places are counted on
 
-pub cross_after-shifted : (before d : ℕ) (a b : V2) → cross_after before d a b ≡ shifted before (cross_after 0 d a b)
+pub cross_after-shifted : (before d : ℕ) (a b : PlaneVector) → cross_after before d a b ≡ shifted before (cross_after 0 d a b)
 unfolding cross_after
 cross_after-shifted before d a b =
     chain-shifted before (mul d a.x b.y) (mul d a.y b.x) (λ x y. is_fitting (sub x y)) sub (is_fitting_mul d a.x b.y) (is_fitting_mul d a.y b.x)
 
-pub dot_after-shifted : (before d : ℕ) (a b : V2) → dot_after before d a b ≡ shifted before (dot_after 0 d a b)
+pub dot_after-shifted : (before d : ℕ) (a b : PlaneVector) → dot_after before d a b ≡ shifted before (dot_after 0 d a b)
 unfolding dot_after
 dot_after-shifted before d a b =
     chain-shifted before (mul d a.x b.x) (mul d a.y b.y) (λ x y. is_fitting (add x y)) add (is_fitting_mul d a.x b.x) (is_fitting_mul d a.y b.y)
 
-pub norm_after-shifted : (before d : ℕ) (a : V2) → norm_after before d a ≡ shifted before (norm_after 0 d a)
+pub norm_after-shifted : (before d : ℕ) (a : PlaneVector) → norm_after before d a ≡ shifted before (norm_after 0 d a)
 unfolding norm_after
 norm_after-shifted before d a = dot_after-shifted before d a a

@@ -9,10 +9,9 @@ use Rattle.fs_quadratic.specs.Ring.{Quadratic, IsPositive, sign}
 use Rattle.fs_quadratic.proofs.SquareRoot.{radicand_no_square}
 use Rattle.fs_quadratic.proofs.Signs.{sign-positive, sign-zero, positive_of_sign, zero_of_sign}
 use Rattle.fs_plane.specs.declared.sites.Place.{Place}
-use Rattle.fs_plane.specs.declared.vector.V2.{V2}
 use Rattle.fs_plane.specs.Checked.{◌>>=◌}
 use Rattle.fs_plane.specs.Formulas.{cross_after, dot_after, is_above_zero, by_turn, in_sector_after}
-use Rattle.fs_plane.specs.Vector.{vector_neg, cross, dot, IsInSector}
+use Rattle.fs_plane.specs.Vector.{PlaneVector, vector_neg, cross, dot, IsInSector}
 use Rattle.fs_plane.proofs.FormulaLaws.{cross_value, dot_value}
 
 greater_of : (o : Ordering) → IsTrue (is_gt o) → o ≡ Greater
@@ -40,7 +39,7 @@ module _ {d : ℕ} (radicand : IsRadicand d) where
         (λ h. is_held ∙ ap is_gt (sign-positive d found.0 (subst (IsPositive d) (sym is_value) h))),
       )
 
-  module _ (before : ℕ) (outgoing incoming v : V2) where
+  module _ (before : ℕ) (outgoing incoming v : PlaneVector) where
     abbrev along : Result Bool Place
     along = is_above_zero d (dot_after (before + 3) d outgoing v)
 

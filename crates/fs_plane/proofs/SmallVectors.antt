@@ -4,8 +4,7 @@ use Rattle.fs_quadratic.specs.declared.radicand.Field.{Field}
 use Rattle.fs_quadratic.specs.Ring.{Quadratic, add, sub}
 use Rattle.fs_quadratic.specs.Width.{Fits}
 use Rattle.fs_quadratic.proofs.Small.{small_fits, small_sum_fits, small_difference_fits}
-use Rattle.fs_plane.specs.declared.vector.V2.{V2}
-use Rattle.fs_plane.specs.Vector.{IsSmallVector, cross, dot}
+use Rattle.fs_plane.specs.Vector.{PlaneVector, IsSmallVector, cross, dot}
 use Rattle.fs_plane.specs.Formulas.{cross_after, dot_after}
 use Rattle.fs_plane.proofs.FormulaLaws.{cross_fits, dot_fits}
 
@@ -15,7 +14,7 @@ fits_sub {w} {x} {y} {z} e f h = subst (λ v. Fits (sub v x)) (sym e) (subst (λ
 pub fits_add : {w x y z : Quadratic} → w ≡ y → x ≡ z → Fits (add y z) → Fits (add w x)
 fits_add {w} {x} {y} {z} e f h = subst (λ v. Fits (add v x)) (sym e) (subst (λ v. Fits (add y v)) (sym f) h)
 
-module _ (field : Field) (a b : V2) (s : IsSmallVector a) (t : IsSmallVector b) where
+module _ (field : Field) (a b : PlaneVector) (s : IsSmallVector a) (t : IsSmallVector b) where
   pub small_cross_fits : Fits (cross field.d a b)
   small_cross_fits = small_difference_fits field a.x b.y a.y b.x s.0 t.1 s.1 t.0
 

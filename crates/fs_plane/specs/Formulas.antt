@@ -6,26 +6,25 @@ use Rattle.std.specs.declared.cmp.Ordering.TheVariants.{Less, Equal, Greater}
 use Rattle.fs_quadratic.specs.Ring.{Quadratic, sign}
 use Rattle.fs_quadratic.specs.Width.{Fits, MulFits}
 use Rattle.fs_plane.specs.declared.sites.Place.{Place}
-use Rattle.fs_plane.specs.declared.vector.V2.{V2}
-use Rattle.fs_plane.specs.Vector.{vector_neg, cross, dot}
+use Rattle.fs_plane.specs.Vector.{PlaneVector, vector_neg, cross, dot}
 use Rattle.fs_plane.specs.Checked.{◌>>=◌, checked_product, checked_sum, checked_difference}
 
 -- a.x·b.y - a.y·b.x
-unfoldable pub cross_after : ℕ → ℕ → V2 → V2 → Result Quadratic Place
+unfoldable pub cross_after : ℕ → ℕ → PlaneVector → PlaneVector → Result Quadratic Place
 cross_after before d a b = do
   left ← checked_product d (before + 1) a.x b.y
   right ← checked_product d (before + 2) a.y b.x
   checked_difference (before + 3) left right
 
 -- a.x·b.x + a.y·b.y
-unfoldable pub dot_after : ℕ → ℕ → V2 → V2 → Result Quadratic Place
+unfoldable pub dot_after : ℕ → ℕ → PlaneVector → PlaneVector → Result Quadratic Place
 dot_after before d a b = do
   left ← checked_product d (before + 1) a.x b.x
   right ← checked_product d (before + 2) a.y b.y
   checked_sum (before + 3) left right
 
 -- a.x·a.x + a.y·a.y
-unfoldable pub norm_after : ℕ → ℕ → V2 → Result Quadratic Place
+unfoldable pub norm_after : ℕ → ℕ → PlaneVector → Result Quadratic Place
 norm_after before d a = dot_after before d a a
 
 -- whether a number that is computed is above 0
@@ -39,15 +38,15 @@ by_turn Equal along ends = along
 by_turn Greater along ends = ends
 
 -- whether v is in the sector of a corner
-unfoldable pub in_sector_after : ℕ → ℕ → V2 → V2 → V2 → Result Bool Place
+unfoldable pub in_sector_after : ℕ → ℕ → PlaneVector → PlaneVector → PlaneVector → Result Bool Place
 in_sector_after before d outgoing incoming v = do
   turn ← cross_after before d outgoing v
   by_turn (sign d turn) (is_above_zero d (dot_after (before + 3) d outgoing v)) (is_above_zero d (cross_after (before + 6) d v (vector_neg incoming)))
 
 -- all numbers of the cross product are within the width
-abbrev pub CrossFits : ℕ → V2 → V2 → Type 0
+abbrev pub CrossFits : ℕ → PlaneVector → PlaneVector → Type 0
 CrossFits d a b = MulFits d a.x b.y × MulFits d a.y b.x × Fits (cross d a b)
 
 -- all numbers of the dot product are
-abbrev pub DotFits : ℕ → V2 → V2 → Type 0
+abbrev pub DotFits : ℕ → PlaneVector → PlaneVector → Type 0
 DotFits d a b = MulFits d a.x b.x × MulFits d a.y b.y × Fits (dot d a b)

@@ -4,58 +4,58 @@ use Rattle.std.specs.Ordering.{is_gt, is_lt}
 use Rattle.std.specs.declared.cmp.Ordering.{Ordering}
 use Rattle.std.specs.declared.cmp.Ordering.TheVariants.{Less, Equal, Greater}
 use Rattle.fs_ring.specs.Vector as plane
+use Rattle.fs_ring.specs.Vector.{Vector}
 use Rattle.fs_ring.specs.Direction.{InSector}
 use Rattle.fs_quadratic.specs.Ring.{Quadratic, quadratic, zero, one, add, neg, sign, IsPositive}
 use Rattle.fs_quadratic.specs.Width.{IsSmall}
-use Rattle.fs_plane.specs.declared.vector.V2.{V2}
 
--- the vector as one over the ring
-abbrev pub vector_of : V2 → plane.Vector Quadratic
-vector_of a = record { x = a.x; y = a.y }
+-- a vector with parts p + q·√d, as contracts see a `V2`
+abbrev pub PlaneVector : Type 0
+PlaneVector = Vector Quadratic
 
-abbrev pub vector_zero : V2
+abbrev pub vector_zero : PlaneVector
 vector_zero = record { x = zero; y = zero }
 
 -- (1, 0)
-abbrev pub east : V2
+abbrev pub east : PlaneVector
 east = record { x = one; y = zero }
 
 -- the sum, by parts
-abbrev pub vector_add : V2 → V2 → V2
+abbrev pub vector_add : PlaneVector → PlaneVector → PlaneVector
 vector_add a b = record { x = add a.x b.x; y = add a.y b.y }
 
 -- both parts are small
-abbrev pub IsSmallVector : V2 → Type 0
+abbrev pub IsSmallVector : PlaneVector → Type 0
 IsSmallVector a = IsSmall a.x × IsSmall a.y
 
 -- the opposite vector
-abbrev pub vector_neg : V2 → V2
+abbrev pub vector_neg : PlaneVector → PlaneVector
 vector_neg a = record { x = neg a.x; y = neg a.y }
 
 -- the sum of a list of vectors, from the left
-abbrev pub vector_total_from : V2 → List V2 → V2
+abbrev pub vector_total_from : PlaneVector → List PlaneVector → PlaneVector
 vector_total_from a [] = a
 vector_total_from a (b ∷ bs) = vector_total_from (vector_add a b) bs
 
 -- the sum of a list of vectors
-abbrev pub vector_total : List V2 → V2
+abbrev pub vector_total : List PlaneVector → PlaneVector
 vector_total vectors = vector_total_from vector_zero vectors
 
 -- the cross product: positive where b stands to the left of a
-abbrev pub cross : ℕ → V2 → V2 → Quadratic
-cross d a b = plane.cross (quadratic d) (vector_of a) (vector_of b)
+abbrev pub cross : ℕ → PlaneVector → PlaneVector → Quadratic
+cross d a b = plane.cross (quadratic d) a b
 
 -- the dot product
-abbrev pub dot : ℕ → V2 → V2 → Quadratic
-dot d a b = plane.dot (quadratic d) (vector_of a) (vector_of b)
+abbrev pub dot : ℕ → PlaneVector → PlaneVector → Quadratic
+dot d a b = plane.dot (quadratic d) a b
 
 -- v stands in the sector of a corner: it runs counterclockwise from the side that begins there, included, to the opposite of the side that ends there, excluded
-abbrev pub IsInSector : ℕ → V2 → V2 → V2 → Type 0
-IsInSector d outgoing incoming v = InSector (quadratic d) (IsPositive d) (vector_of outgoing) (vector_of (vector_neg incoming)) (vector_of v)
+abbrev pub IsInSector : ℕ → PlaneVector → PlaneVector → PlaneVector → Type 0
+IsInSector d outgoing incoming v = InSector (quadratic d) (IsPositive d) outgoing (vector_neg incoming) v
 
 -- the squared length
-abbrev pub norm : ℕ → V2 → Quadratic
-norm d a = plane.norm (quadratic d) (vector_of a)
+abbrev pub norm : ℕ → PlaneVector → Quadratic
+norm d a = plane.norm (quadratic d) a
 
 -- the upper half by the signs of y and x: y > 0, or y = 0 and x > 0
 abbrev pub upper_by_signs : Ordering → Ordering → Bool
@@ -64,7 +64,7 @@ upper_by_signs Equal x = is_gt x
 upper_by_signs Less x = false
 
 -- the vector points into the upper half
-abbrev pub is_upper : ℕ → V2 → Bool
+abbrev pub is_upper : ℕ → PlaneVector → Bool
 is_upper d v = upper_by_signs (sign d v.y) (sign d v.x)
 
 -- the other half, to which (-1,0) belongs and not (1,0): y > 0, or y = 0 and x < 0
@@ -74,5 +74,5 @@ raised_by_signs Equal x = is_lt x
 raised_by_signs Less x = false
 
 -- the vector is raised: it points above the line of (1,0), or along (-1,0)
-abbrev pub is_raised : ℕ → V2 → Bool
+abbrev pub is_raised : ℕ → PlaneVector → Bool
 is_raised d v = raised_by_signs (sign d v.y) (sign d v.x)

@@ -21,7 +21,7 @@ fn cross_after(before: u32, field: Field, a: V2, b: V2) -> Result<Elem, Place>
     requires { before + 3 < 2 ^ 32 }
     ensures { result ≡ cross_after before field.d a b }
 {
-    if a.x.is_small() && a.y.is_small() && b.x.is_small() && b.y.is_small() {
+    if a.is_small() && b.is_small() {
         Ok(cross_small(field, a, b))
     } else {
         cross_checked(before, field, a, b)
@@ -52,7 +52,7 @@ fn dot_after(before: u32, field: Field, a: V2, b: V2) -> Result<Elem, Place>
     requires { before + 3 < 2 ^ 32 }
     ensures { result ≡ dot_after before field.d a b }
 {
-    if a.x.is_small() && a.y.is_small() && b.x.is_small() && b.y.is_small() {
+    if a.is_small() && b.is_small() {
         Ok(dot_small(field, a, b))
     } else {
         dot_checked(before, field, a, b)

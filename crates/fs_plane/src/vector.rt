@@ -1,14 +1,25 @@
-ghost use Rattle.std.specs.Prelude.{◌≡◌};
-ghost use Rattle.fs_plane.specs.Vector.{vector_zero, vector_neg, is_upper, is_raised};
+ghost use Rattle.std.specs.Prelude.{◌≡◌, ◌↔◌, IsTrue};
+ghost use Rattle.fs_plane.specs.Vector.{IsSmallVector, vector_neg, is_upper, is_raised};
 
 use fs_quadratic::{Elem, Field};
 use std::cmp::Ordering;
+use std::marker::Model;
 
 /// A vector of the plane. On a surface its parts are the true ones times the surface's denominator.
 #[derive(Clone, Copy, Debug, PartialEq, Eq, Hash)]
 pub struct V2 {
     pub x: Elem,
     pub y: Elem,
+}
+
+impl Model for V2 {
+    ghost use Rattle.fs_plane.specs.Vector.{PlaneVector};
+
+    ghost Value = { PlaneVector };
+
+    ghost view = { λ v. record { x = v.x; y = v.y } };
+
+    ghost inverse = { λ v. record { x = v.x; y = v.y } };
 }
 
 impl V2 {
@@ -26,6 +37,13 @@ impl V2 {
             x: self.x.neg(),
             y: self.y.neg(),
         }
+    }
+
+    /// Whether all parts of both numbers are below 2^58 in size. The formulas of small vectors need no checks.
+    pub fn is_small(self) -> bool
+        ensures { IsTrue result ↔ IsSmallVector self }
+    {
+        self.x.is_small() && self.y.is_small()
     }
 
     /// Whether it points into the upper half: y > 0, or y = 0 and x > 0.

@@ -1,4 +1,3 @@
-pub mod Firsts
 pub mod NormForm
 pub mod SquareRoot
 pub mod Laws

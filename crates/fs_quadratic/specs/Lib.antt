@@ -1,4 +1,3 @@
-pub mod First
 pub mod Ring
 pub mod Width
 pub mod Radicand

@@ -2,7 +2,8 @@ use Rattle.std.proofs.Common.{◌≡◌, take, get_or, ◌∙◌, ap, arith}
 use Rattle.std.proofs.lemmas.Int.Digits.{digits_more, digits_value_more}
 use Rattle.std.specs.Str.Parse.{digits_value}
 use Rattle.std.proofs.lemmas.List.{take_all}
-use Rattle.fs_fraction.proofs.Numerals.{digit_at, digit_in_range, digit_value_is, value_below, value_below_17}
+use Rattle.fs_fraction.proofs.Numerals.{value_below_17}
+use Rattle.fs_lists.proofs.Digits.{digit_at, digit_in_range, digit_value_is, digits_value_below}
 use Rattle.fs_fraction.proofs.digits.number.Goals as goal
 
 pub overflow_sub-byte : goal.overflow_sub-byte
@@ -40,6 +41,6 @@ loop-byte-preserved c =
 pub returns-clause-below : goal.returns-clause-below
 returns-clause-below c =
     let all : take c.loop-byte.byte-index c.args.digits.now ≡ c.args.digits.now = take_all c.loop-byte.byte-index c.args.digits.now (omega arith) in
-    let small = value_below c.args.digits.now 18 c.requires.digits c.requires.few in
+    let small = digits_value_below c.args.digits.now 18 c.requires.digits c.requires.few in
     let number : c.loop-byte.value ≡ digits_value 10 c.args.digits.now = c.loop-byte.invariant.number ∙ ap (digits_value 10) all in
     omega arith

@@ -1,9 +1,9 @@
--- Items of lists: taking one out, and counting by partners.
+-- A list without one of its members, and counting by partners.
 use Rattle.std.proofs.Common.{◌≡◌, suc, ◌≤◌, ◌⊎◌, List, [], ◌∷◌, length, refl, sym, ap, ◌∙◌, subst, inl, inr, arith}
-use Rattle.fs_cycles.specs.Cycles.{IsIn, AreApart}
+use Rattle.fs_lists.specs.Members.{IsIn, AreApart}
 
 module _ {X : Type 0} where
-  -- the list without the item at that place
+  -- the list without that member
   abbrev pub without : (x : X) (xs : List X) → IsIn x xs → List X
   without x [] h = absurd h
   without x (y ∷ ys) (inl e) = ys

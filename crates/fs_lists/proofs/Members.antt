@@ -1,7 +1,7 @@
--- Items of lists that are joined, mapped or counted out; and the words of std for them.
-use Rattle.std.proofs.Common.{◌≡◌, ℕ, zero, suc, ◌+◌, ◌<◌, ◌≤◌, ◌⊎◌, List, [], ◌∷◌, ◌++◌, map, length, get_or, Contains, refl, sym, ap, subst, inl, inr, arith}
-use Rattle.std.specs.List.{range_with_len}
-use Rattle.fs_cycles.specs.Cycles.{IsIn, AreApart}
+-- Members of lists that are joined or mapped, and the membership of std.
+use Rattle.std.proofs.Common.{◌≡◌, ℕ, zero, suc, ◌<◌, ◌⊎◌, List, [], ◌∷◌, ◌++◌, map, length, get_or, Contains, refl, sym, ap, subst, inl, inr, arith}
+use Rattle.std.specs.List.{AllByRecursion}
+use Rattle.fs_lists.specs.Members.{IsIn, AreApart}
 
 module _ {X : Type 0} where
   in_at : (x : X) (xs : List X) (k : ℕ) → k < length xs → get_or xs k x ≡ x → IsIn x xs
@@ -9,9 +9,11 @@ module _ {X : Type 0} where
   in_at x (y ∷ ys) zero l e = inl (sym e)
   in_at x (y ∷ ys) (suc k) l e = inr (in_at x ys k (omega arith) e)
 
+  -- what std's word says to be in a list is in it
   pub in_of_contains : (x : X) (xs : List X) → Contains xs x → IsIn x xs
   in_of_contains x xs h = in_at x xs h.0 h.1 h.2
 
+  -- a list that is joined with another has the members of both, and no others
   pub in_append_left : (x : X) (xs ys : List X) → IsIn x xs → IsIn x (xs ++ ys)
   in_append_left x [] ys h = absurd h
   in_append_left x (z ∷ zs) ys (inl e) = inl e
@@ -26,6 +28,7 @@ module _ {X : Type 0} where
   in_append_cases x (z ∷ zs) ys (inl e) = inl (inl e)
   in_append_cases x (z ∷ zs) ys (inr h) = elim (in_append_cases x zs ys h) [ inl k ↦ inl (inr k) | inr k ↦ inr k ]
 
+  -- two lists whose members are apart, and apart from each other, are apart when they are joined
   pub apart_append : (R : X → X → Type 0) (xs ys : List X) → AreApart R xs → AreApart R ys
       → ((x y : X) → IsIn x xs → IsIn y ys → ¬ R x y) → AreApart R (xs ++ ys)
   apart_append R [] ys p q across = q
@@ -35,6 +38,7 @@ module _ {X : Type 0} where
   )
 
 module _ {X Y : Type 0} (g : X → Y) where
+  -- the members of a mapped list are the values at the members
   pub in_map : (x : X) (xs : List X) → IsIn x xs → IsIn (g x) (map g xs)
   in_map x [] h = absurd h
   in_map x (z ∷ zs) (inl e) = inl (ap g e)
@@ -45,6 +49,7 @@ module _ {X Y : Type 0} (g : X → Y) where
   in_map_cases y (z ∷ zs) (inl e) = (z, inl refl, e)
   in_map_cases y (z ∷ zs) (inr h) = let r = in_map_cases y zs h in (r.0, inr r.1, r.2)
 
+  -- a map keeps members apart
   pub apart_map : (S : X → X → Type 0) (R : Y → Y → Type 0) (xs : List X)
       → ((x w : X) → IsIn x xs → IsIn w xs → R (g x) (g w) → S x w) → AreApart S xs → AreApart R (map g xs)
   apart_map S R [] to p = tt
@@ -55,18 +60,8 @@ module _ {X Y : Type 0} (g : X → Y) where
     apart_map S R xs (λ u v hu hv. to u v (inr hu) (inr hv)) p.1,
   )
 
-pub in_range : (i n j : ℕ) → i ≤ j → j < i + n → IsIn j (range_with_len i n)
-in_range i zero j l m = absurd (omega arith)
-in_range i (suc n) j l m = elim (first_or_later i j l) [ inl e ↦ inl e | inr k ↦ inr (in_range (i + 1) n j k (omega arith)) ]
-  where
-    first_or_later : (i j : ℕ) → i ≤ j → (j ≡ i) ⊎ (i + 1 ≤ j)
-    first_or_later i j l = grind arith
-
-pub range_bounds : (i n j : ℕ) → IsIn j (range_with_len i n) → (i ≤ j) × (j < i + n)
-range_bounds i zero j h = absurd h
-range_bounds i (suc n) j (inl e) = (omega arith, omega arith)
-range_bounds i (suc n) j (inr h) = let r = range_bounds (i + 1) n j h in (omega (arith, r.0), omega (arith, r.1))
-
-pub range_distinct : (i n : ℕ) → AreApart (λ x y. x ≡ y) (range_with_len i n)
-range_distinct i zero = tt
-range_distinct i (suc n) = ((λ j m e. let r = range_bounds (i + 1) n j m in absurd (omega (arith, r.0, e))), range_distinct (i + 1) n)
+-- what holds of each item holds of a member
+pub All-member : {X : Type 0} (P : X → Type 0) (xs : List X) (x : X) → AllByRecursion P xs → IsIn x xs → P x
+All-member P [] x a h = absurd h
+All-member P (y ∷ ys) x a (inl e) = subst P (sym e) a.0
+All-member P (y ∷ ys) x a (inr h) = All-member P ys x a.1 h

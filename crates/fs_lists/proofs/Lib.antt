@@ -1,0 +1,11 @@
+pub mod Equal
+pub mod All
+pub mod First
+pub mod Items
+pub mod Members
+pub mod Removal
+pub mod Counts
+pub mod Ranges
+pub mod Sums
+pub mod Digits
+pub mod Results
