@@ -19,7 +19,7 @@ module _ {X : Type 0} {f : X → X} {xs : List X} (decide : IsDecidable X) (P : 
             ]
       ]
 
-  -- chosen stands for the cycles that meet ys
+  -- chosen represents the cycles that meet ys
   record Covers (ys chosen : List X) : Type 0 where
     there : (r : X) → IsIn r chosen → IsIn r ys
     each : (x : X) → IsIn x ys → (r : X) × IsIn r chosen × LeadsTo f r x

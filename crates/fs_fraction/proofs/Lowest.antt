@@ -38,7 +38,7 @@ cross : (k q p e d : ℤ) → k *ℤ q ≡ p → k *ℤ e ≡ d → d *ℤ q ≡
 cross k q p e d hp hd =
     subst (λ x. x *ℤ q ≡ e *ℤ p) hd (subst (λ x. (k *ℤ e) *ℤ q ≡ e *ℤ x) hp (identity integer_ring (k ∷ q ∷ e ∷ []) (λ k q e. (k ⊗ e) ⊗ q ≐ e ⊗ (k ⊗ q)) refl))
 
--- the quotients stand for the same number
+-- a fraction has the value that it is reduced from
 pub reduced-value : (num : Quadratic) (den : ℕ) → HasValue (reduced num den) num den
 reduced-value num den =
     let a = unsigned_abs num.p in

@@ -1,4 +1,4 @@
--- What is read of a text: at most one answer, and its number.
+-- What is read of a text is unique.
 use Rattle.std.proofs.Common.{◌≡◌, ℕ, ℤ, pos, ◌*ℤ◌, ◌*◌, ◌<◌, ◌<ℤ◌, ◌^◌, Bool, List, Option, Some, None, Result, Ok, negsuc, refl, sym, ◌∙◌, ap, subst, arith}
 use mir.Syntax.{w128}
 use mir.Val.{to_z, of_z}
@@ -14,12 +14,12 @@ use Rattle.fs_lists.proofs.All.{All-append}
 use Rattle.fs_fraction.specs.declared.number.NumberFault.{NumberFault}
 use Rattle.fs_fraction.specs.declared.number.NumberFault.TheVariants.{BadNumber}
 use Rattle.fs_fraction.specs.Fraction.{Fraction, reduced}
-use Rattle.fs_fraction.specs.Number.{Quotient, Written, Both, Spells, IsNarrow, IsDefined, Reads, number, too_wide, undefined, foreign, value, over_value, under_value, under_runs}
-use Rattle.fs_fraction.specs.Parts.{IsDefinedQuotient}
+use Rattle.fs_fraction.specs.Number.{Ratio, Written, Both, Spells, IsNarrow, IsDefined, Reads, number, wide_number, zero_denominator, no_number, value, over_value, under_value, under_runs}
+use Rattle.fs_fraction.specs.Parts.{IsDefinedRatio}
 use Rattle.fs_fraction.proofs.Inverses.{through_bits}
 use Rattle.fs_fraction.proofs.Parts.{same_written}
 
--- ---- at most one answer
+-- ---- at most one result
 
 -- what holds of a number as it is written holds of each that the text spells
 along : (P : Written → Type 0) (text : List ℕ) (w w' : Written) → Spells text w → Spells text w' → P w → P w'
@@ -27,25 +27,25 @@ along P text w w' s s' h = subst P (same_written text w w' s s') h
 
 pub same_read : (text : List ℕ) (r r' : Result Fraction NumberFault) → Reads text r → Reads text r' → r' ≡ r
 same_read text r r' (number w s n d e) (number w' s' n' d' e') = e' ∙ (ap (λ (v : Written). Ok (value v)) (same_written text w' w s' s) ∙ sym e)
-same_read text r r' (number w s n d e) (too_wide w' s' n' e') = absurd (n' (along IsNarrow text w w' s s' n))
-same_read text r r' (number w s n d e) (undefined w' s' n' d' e') = absurd (d' (along IsDefined text w w' s s' d))
-same_read text r r' (number w s n d e) (foreign none e') = absurd (none w s)
-same_read text r r' (too_wide w s n e) (number w' s' n' d' e') = absurd (n (along IsNarrow text w' w s' s n'))
-same_read text r r' (too_wide w s n e) (too_wide w' s' n' e') = e' ∙ sym e
-same_read text r r' (too_wide w s n e) (undefined w' s' n' d' e') = absurd (n (along IsNarrow text w' w s' s n'))
-same_read text r r' (too_wide w s n e) (foreign none e') = absurd (none w s)
-same_read text r r' (undefined w s n d e) (number w' s' n' d' e') = absurd (d (along IsDefined text w' w s' s d'))
-same_read text r r' (undefined w s n d e) (too_wide w' s' n' e') = absurd (n' (along IsNarrow text w w' s s' n))
-same_read text r r' (undefined w s n d e) (undefined w' s' n' d' e') = e' ∙ sym e
-same_read text r r' (undefined w s n d e) (foreign none e') = e' ∙ sym e
-same_read text r r' (foreign none e) (number w' s' n' d' e') = absurd (none w' s')
-same_read text r r' (foreign none e) (too_wide w' s' n' e') = absurd (none w' s')
-same_read text r r' (foreign none e) (undefined w' s' n' d' e') = e' ∙ sym e
-same_read text r r' (foreign none e) (foreign none' e') = e' ∙ sym e
+same_read text r r' (number w s n d e) (wide_number w' s' n' e') = absurd (n' (along IsNarrow text w w' s s' n))
+same_read text r r' (number w s n d e) (zero_denominator w' s' n' d' e') = absurd (d' (along IsDefined text w w' s s' d))
+same_read text r r' (number w s n d e) (no_number none e') = absurd (none w s)
+same_read text r r' (wide_number w s n e) (number w' s' n' d' e') = absurd (n (along IsNarrow text w' w s' s n'))
+same_read text r r' (wide_number w s n e) (wide_number w' s' n' e') = e' ∙ sym e
+same_read text r r' (wide_number w s n e) (zero_denominator w' s' n' d' e') = absurd (n (along IsNarrow text w' w s' s n'))
+same_read text r r' (wide_number w s n e) (no_number none e') = absurd (none w s)
+same_read text r r' (zero_denominator w s n d e) (number w' s' n' d' e') = absurd (d (along IsDefined text w' w s' s d'))
+same_read text r r' (zero_denominator w s n d e) (wide_number w' s' n' e') = absurd (n' (along IsNarrow text w w' s s' n))
+same_read text r r' (zero_denominator w s n d e) (zero_denominator w' s' n' d' e') = e' ∙ sym e
+same_read text r r' (zero_denominator w s n d e) (no_number none e') = e' ∙ sym e
+same_read text r r' (no_number none e) (number w' s' n' d' e') = absurd (none w' s')
+same_read text r r' (no_number none e) (wide_number w' s' n' e') = absurd (none w' s')
+same_read text r r' (no_number none e) (zero_denominator w' s' n' d' e') = e' ∙ sym e
+same_read text r r' (no_number none e) (no_number none' e') = e' ∙ sym e
 
 -- a narrow number is read as its value, or refused where a denominator is 0
 pub read_narrow : (text : List ℕ) (w : Written) (o : Option Fraction) → Spells text w → IsNarrow w → SomeIff o (IsDefined w) (value w) → Reads text (ok_or o BadNumber)
-read_narrow text w None s n h = undefined w s n h refl
+read_narrow text w None s n h = zero_denominator w s n h refl
 read_narrow text w (Some x) s n h = number w s n h.0 (ap Ok h.1)
 
 -- ---- numbers of 18 digits
@@ -72,7 +72,7 @@ product_through a b ha hb =
     ∙ through_bits (a *ℤ b) (product_within a b ha hb))
 
 -- both parts over the product of their denominators
-pub both_value : (minus minus' : Bool) (a b : Quotient) (m n p q den : ℤ) (x : Fraction) → IsDefinedQuotient a × (m ≡ pos (under_value a.under)) → IsDefinedQuotient b × (n ≡ pos (under_value b.under))
+pub both_value : (minus minus' : Bool) (a b : Ratio) (m n p q den : ℤ) (x : Fraction) → IsDefinedRatio a × (m ≡ pos (under_value a.under)) → IsDefinedRatio b × (n ≡ pos (under_value b.under))
     → p ≡ over_value minus a *ℤ n → q ≡ over_value minus' b *ℤ m → den ≡ m *ℤ n → x ≡ reduced (record { p = p; q = q }) (unsigned_abs den)
     → IsDefined (Both minus a minus' b) × (x ≡ value (Both minus a minus' b))
 both_value minus minus' a b m n p q den x hm hn hp hq hden hx =

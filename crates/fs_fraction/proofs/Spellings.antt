@@ -16,8 +16,8 @@ use Rattle.fs_lists.proofs.All.{All-append}
 use Rattle.fs_quadratic.proofs.Laws.{quadratic_eq}
 use Rattle.fs_fraction.specs.Divisor.{gcd}
 use Rattle.fs_fraction.specs.Fraction.{Fraction, IsLowest}
-use Rattle.fs_fraction.specs.Number.{Quotient, Written, Rational, Root, Both, Spells, IsNarrow, IsDefined, Reads, number, value, over_value, under_value, signed, quotient_text, under_text, under_runs, sign_text, joint_text, quotient_spelling, rational_spelling, root_spelling, spelling}
-use Rattle.fs_fraction.specs.Parts.{IsQuotient, IsDefinedQuotient}
+use Rattle.fs_fraction.specs.Number.{Ratio, Written, Rational, Root, Both, Spells, IsNarrow, IsDefined, Reads, number, value, over_value, under_value, signed, ratio_text, under_text, under_runs, sign_text, middle_sign_text, ratio_spelling, rational_spelling, r_part_spelling, spelling}
+use Rattle.fs_fraction.specs.Parts.{IsRatio, IsDefinedRatio}
 use Rattle.fs_fraction.proofs.Divisors.{gcd-is, quotient_positive}
 use Rattle.fs_fraction.proofs.Lowest.{quotient_times, zero_size, size_within}
 use Rattle.fs_fraction.proofs.Values.{reduced-unique}
@@ -25,14 +25,14 @@ use Rattle.fs_fraction.proofs.Values.{reduced-unique}
 -- ---- n/m in lowest terms
 
 -- as it is written
-quotient_as : ℕ → ℕ → Quotient
+quotient_as : ℕ → ℕ → Ratio
 quotient_as n m = record { over = decimal (n / gcd n m); under = if m / gcd n m == 1 then None else Some (decimal (m / gcd n m)) }
 
 under_text-if : (b : Bool) (digits : List ℕ) → under_text (if b then None else Some digits) ≡ (if b then [] else 47 ∷ digits)
 under_text-if true digits = refl
 under_text-if false digits = refl
 
-as_text : (n m : ℕ) → quotient_text (quotient_as n m) ≡ quotient_spelling n m
+as_text : (n m : ℕ) → ratio_text (quotient_as n m) ≡ ratio_spelling n m
 unfolding quotient_as
 as_text n m = ap (λ (t : List ℕ). decimal (n / gcd n m) ++ t) (under_text-if (m / gcd n m == 1) (decimal (m / gcd n m)))
 
@@ -54,11 +54,11 @@ module _ (n m : ℕ) (small : n < 2 ^ 127) (within : m < 2 ^ 127) (up : 0 < m) w
   under_small : m / gcd n m < 2 ^ 127
   under_small = let less = div-le_self m (gcd n m) in omega arith
 
-  as_digits : IsQuotient (quotient_as n m)
+  as_digits : IsRatio (quotient_as n m)
   unfolding quotient_as
   as_digits = record { over = (numeral_of (n / gcd n m) over_small).0; under = runs-if (IsNumeral 10) (m / gcd n m == 1) (decimal (m / gcd n m)) (numeral_of (m / gcd n m) under_small).0 }
 
-  as_defined : IsDefinedQuotient (quotient_as n m)
+  as_defined : IsDefinedRatio (quotient_as n m)
   unfolding quotient_as
   as_defined =
       let positive : 0 < m / gcd n m = quotient_positive (gcd n m) m ((gcd-is n m).1) up in
@@ -74,7 +74,7 @@ module _ (n m : ℕ) (small : n < 2 ^ 127) (within : m < 2 ^ 127) (up : 0 < m) w
   as_under = under_value-if (m / gcd n m == 1) (m / gcd n m) (λ e. grind (arith, nat_tests)) (numeral_of (m / gcd n m) under_small).1
 
 -- where the denominator that is left is 1, it is the numerator that is left
-pub without_stroke : (n m g : ℕ) → g ≡ gcd n m → m / g ≡ 1 → decimal (n / g) ≡ quotient_spelling n m
+pub without_stroke : (n m g : ℕ) → g ≡ gcd n m → m / g ≡ 1 → decimal (n / g) ≡ ratio_spelling n m
 without_stroke n m g e one =
     let last : m / gcd n m ≡ 1 = ap (λ (k : ℕ). m / k) (sym e) ∙ one in
     let test : (m / gcd n m == 1) ≡ true = grind (arith, nat_tests) in
@@ -141,17 +141,17 @@ module _ (x : Fraction) (fits : Fits x.num) (low : IsLowest x.num x.den) where
   q_small : unsigned_abs x.num.q < 2 ^ 127
   q_small = size_within x.num.q fits.1
 
-  p_part : Quotient
+  p_part : Ratio
   p_part = quotient_as (unsigned_abs x.num.p) x.den
 
-  q_part : Quotient
+  q_part : Ratio
   q_part = quotient_as (unsigned_abs x.num.q) x.den
 
-  p_digits : IsQuotient p_part
+  p_digits : IsRatio p_part
   unfolding p_part
   p_digits = as_digits (unsigned_abs x.num.p) x.den p_small low.within low.positive
 
-  q_digits : IsQuotient q_part
+  q_digits : IsRatio q_part
   unfolding q_part
   q_digits = as_digits (unsigned_abs x.num.q) x.den q_small low.within low.positive
 
@@ -167,26 +167,26 @@ module _ (x : Fraction) (fits : Fits x.num) (low : IsLowest x.num x.den) where
       (reduced-unique x (record { p = over_value (is_negative x.num.p) p_part; q = pos 0 }) (under_value p_part.under) low (den_positive n x.den p_small low.within low.positive)
       (quadratic_eq (single (gcd n x.den) (under_value p_part.under) x.den x.num.p (over_value (is_negative x.num.p) p_part) times den) (nothing (under_value p_part.under) x.den x.num.q none)))
 
-  root_is : x.num.p ≡ pos 0 → IsSpelling (sign_text (is_negative x.num.q) ++ root_spelling x.num.q x.den) x
+  root_is : x.num.p ≡ pos 0 → IsSpelling (sign_text (is_negative x.num.q) ++ r_part_spelling x.num.q x.den) x
   unfolding q_part
   root_is none =
       let n = unsigned_abs x.num.q in
       let times = part_times x.num.q x.den q_small low.within low.positive in
       let den = den_times n x.den q_small low.within low.positive in
-      spelled (sign_text (is_negative x.num.q) ++ root_spelling x.num.q x.den) x (Root (is_negative x.num.q) q_part)
+      spelled (sign_text (is_negative x.num.q) ++ r_part_spelling x.num.q x.den) x (Root (is_negative x.num.q) q_part)
       (record { whole = ap (λ (t : List ℕ). sign_text (is_negative x.num.q) ++ (t ++ 114 ∷ [])) (sym (as_text n x.den)); over = (q_digits.over, tt); under = q_digits.under })
       (as_defined n x.den q_small low.within low.positive)
       (reduced-unique x (record { p = pos 0; q = over_value (is_negative x.num.q) q_part }) (under_value q_part.under) low (den_positive n x.den q_small low.within low.positive)
       (quadratic_eq (nothing (under_value q_part.under) x.den x.num.p none) (single (gcd n x.den) (under_value q_part.under) x.den x.num.q (over_value (is_negative x.num.q) q_part) times den)))
 
-  both_text : rational_spelling x.num.p x.den ++ (joint_text (is_negative x.num.q) ++ root_spelling x.num.q x.den) ≡ sign_text (is_negative x.num.p) ++ (quotient_text p_part ++ (joint_text (is_negative x.num.q) ++ (quotient_text q_part ++ 114 ∷ [])))
+  both_text : rational_spelling x.num.p x.den ++ (middle_sign_text (is_negative x.num.q) ++ r_part_spelling x.num.q x.den) ≡ sign_text (is_negative x.num.p) ++ (ratio_text p_part ++ (middle_sign_text (is_negative x.num.q) ++ (ratio_text q_part ++ 114 ∷ [])))
   unfolding p_part q_part
   both_text =
-      append_assoc (sign_text (is_negative x.num.p)) (quotient_spelling (unsigned_abs x.num.p) x.den) (joint_text (is_negative x.num.q) ++ root_spelling x.num.q x.den)
-      ∙ (ap (λ (t : List ℕ). sign_text (is_negative x.num.p) ++ (t ++ (joint_text (is_negative x.num.q) ++ root_spelling x.num.q x.den))) (sym (as_text (unsigned_abs x.num.p) x.den))
-      ∙ ap (λ (t : List ℕ). sign_text (is_negative x.num.p) ++ (quotient_text p_part ++ (joint_text (is_negative x.num.q) ++ (t ++ 114 ∷ [])))) (sym (as_text (unsigned_abs x.num.q) x.den)))
+      append_assoc (sign_text (is_negative x.num.p)) (ratio_spelling (unsigned_abs x.num.p) x.den) (middle_sign_text (is_negative x.num.q) ++ r_part_spelling x.num.q x.den)
+      ∙ (ap (λ (t : List ℕ). sign_text (is_negative x.num.p) ++ (t ++ (middle_sign_text (is_negative x.num.q) ++ r_part_spelling x.num.q x.den))) (sym (as_text (unsigned_abs x.num.p) x.den))
+      ∙ ap (λ (t : List ℕ). sign_text (is_negative x.num.p) ++ (ratio_text p_part ++ (middle_sign_text (is_negative x.num.q) ++ (t ++ 114 ∷ [])))) (sym (as_text (unsigned_abs x.num.q) x.den)))
 
-  both_is : IsSpelling (rational_spelling x.num.p x.den ++ (joint_text (is_negative x.num.q) ++ root_spelling x.num.q x.den)) x
+  both_is : IsSpelling (rational_spelling x.num.p x.den ++ (middle_sign_text (is_negative x.num.q) ++ r_part_spelling x.num.q x.den)) x
   unfolding p_part q_part
   both_is =
       let n = unsigned_abs x.num.p in

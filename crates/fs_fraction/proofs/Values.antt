@@ -1,4 +1,4 @@
--- Fractions and the numbers that they stand for: equal values are one fraction, and sums and products are those of the values.
+-- Fractions and their values: fractions of equal value are equal, and sums and products are those of the values.
 use Rattle.std.proofs.Common.{◌≡◌, ◌≢◌, ℕ, ℤ, pos, negsuc, neg_ℤ, ◌+ℤ◌, ◌-ℤ◌, ◌*ℤ◌, ◌+◌, ◌*◌, ◌/◌, ◌%◌, ◌<◌, ◌≤◌, zero, suc, [], ◌∷◌, refl, sym, ◌∙◌, ap, subst, arith}
 use Rattle.std.proofs.Math.Nat.{mod-lt, mul-pos, mul-lt-mul_of_pos_left, mul-add-mod_self_left, mod-eq_of_lt, mul-zero, dvd-mul_right, mul-div_cancel'}
 use Rattle.std.proofs.lemmas.Nat.Gcd.{IsGcd-from_zero, IsGcd-from_mod, same_from_IsGcd, dvd_antisymm}
@@ -100,7 +100,7 @@ across x den z r rd f up hr hf =
     ∙ (ap (λ (w : ℤ). pos x.den *ℤ w) (sym hr)
     ∙ identity integer_ring (pos x.den ∷ pos den ∷ r ∷ []) (λ m n r. m ⊗ (n ⊗ r) ≐ n ⊗ (m ⊗ r)) refl))))
 
--- a fraction in lowest terms that stands for num/den is that number reduced
+-- a fraction in lowest terms with the value num/den is that number reduced
 pub reduced-unique : (x : Fraction) (num : Quadratic) (den : ℕ) → IsLowest x.num x.den → 0 < den → HasValue x num den → x ≡ reduced num den
 reduced-unique x num den l up h =
     let r = reduced num den in
@@ -121,7 +121,7 @@ sum_part m n g left right r rd x y en em h =
     ∙ (identity integer_ring (pos g ∷ rd ∷ pos left ∷ pos right ∷ x ∷ y ∷ []) (λ g d l k x y. g ⊗ (d ⊗ ((l ⊗ x) ⊕ (k ⊗ y))) ≐ d ⊗ (((g ⊗ l) ⊗ x) ⊕ ((g ⊗ k) ⊗ y))) refl
     ∙ (ap (λ (k : ℕ). rd *ℤ (pos k *ℤ x +ℤ pos (g * right) *ℤ y)) en ∙ ap (λ (k : ℕ). rd *ℤ (pos n *ℤ x +ℤ pos k *ℤ y)) em))))
 
--- the sum stands for the sum of the values: crosswise over the product of the denominators
+-- the sum has the value of the sum, crosswise over the product of the denominators
 pub sum-value : (x y : Fraction) → HasValue (sum x y) (add (scale y.den x.num) (scale x.den y.num)) (x.den * y.den)
 sum-value x y =
     let g = gcd x.den y.den in
@@ -155,7 +155,7 @@ divide-times x n =
     let b = unsigned_abs x.q in
     quadratic_eq (quotient_times x.p (gcd (content x) n) (first_multiple a b n)) (quotient_times x.q (gcd (content x) n) (second_multiple a b n))
 
--- the product stands for the product of the values
+-- the product has the value of the product
 pub product-value : (d : ℕ) (x y : Fraction) → HasValue (product d x y) (mul d x.num y.num) (x.den * y.den)
 product-value d x y =
     let u = shared x y in
@@ -182,7 +182,7 @@ sign-scale {d} no_square k x up =
     (identity integer_ring (pos k ∷ x.p ∷ x.q ∷ []) (λ k p q. (k ⊗ q) ⊕ (numeral 0 ⊗ p) ≐ k ⊗ q) refl) in
     ap (sign d) (sym times) ∙ sign-positive_mul no_square whole x positive
 
--- a fraction has the sign of each numerator that it stands for
+-- a fraction has the sign of each numerator of its value over a positive denominator
 pub value-sign : {d : ℕ} → IsNoSquare d → (x : Fraction) (num : Quadratic) (den : ℕ) → 0 < x.den → 0 < den → HasValue x num den → sign d x.num ≡ sign d num
 value-sign {d} no_square x num den above up h =
     sym (sign-scale no_square den x.num up) ∙ (ap (sign d) h ∙ sign-scale no_square x.den num above)

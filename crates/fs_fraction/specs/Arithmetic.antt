@@ -5,7 +5,7 @@ use Rattle.fs_quadratic.specs.Width.{InWidth, Fits, MultipleFits, MulFits}
 use Rattle.fs_fraction.specs.Divisor.{gcd, content, divide}
 use Rattle.fs_fraction.specs.Fraction.{Fraction, scale, reduced}
 
--- the fraction with both signs turned
+-- the negation
 abbrev pub negated : Fraction → Fraction
 negated x = record { num = neg x.num; den = x.den }
 
@@ -33,15 +33,15 @@ SumFits x y = InWidth (pos (common_den x y)) × Fits (left_num x y) × Fits (rig
 
 -- ---- products
 
--- what the numerator of x and the denominator of y have in common
+-- the greatest common divisor of the numerator of x and the denominator of y
 abbrev pub shared : Fraction → Fraction → ℕ
 shared x y = gcd (content x.num) y.den
 
--- the numerator of x without it
+-- the numerator of x divided by it
 abbrev pub rest_num : Fraction → Fraction → Quadratic
 rest_num x y = divide x.num (shared x y)
 
--- the product of the denominators without it
+-- the product of the denominators, each divided by its own
 abbrev pub rest_den : Fraction → Fraction → ℕ
 rest_den x y = (x.den / shared y x) * (y.den / shared x y)
 
@@ -67,7 +67,7 @@ norm d x = x.p *ℤ x.p -ℤ pos d *ℤ (x.q *ℤ x.q)
 abbrev pub NormFits : ℕ → Quadratic → Type 0
 NormFits d x = InWidth (x.p *ℤ x.p) × MultipleFits d x.q x.q × InWidth (norm d x)
 
--- x, with both signs turned where the number before it is below 0
+-- x, or its negation where the number before it is below 0
 abbrev pub with_sign : ℤ → Quadratic → Quadratic
 with_sign (pos n) x = x
 with_sign (negsuc n) x = neg x
@@ -76,7 +76,7 @@ with_sign (negsuc n) x = neg x
 abbrev pub primitive : Quadratic → Quadratic
 primitive x = divide x (content x)
 
--- what the denominator and both parts of the numerator have in common
+-- the greatest common divisor of the denominator and both parts of the numerator
 abbrev pub inner : Fraction → ℕ
 inner x = gcd x.den (content x.num)
 

@@ -27,6 +27,6 @@ abbrev pub reduced : Quadratic → ℕ → Fraction
 reduced num den =
     record { num = divide num (gcd (content num) den); den = den / gcd (content num) den }
 
--- the fraction stands for num over den
+-- the value of the fraction is num over den: multiplied across they are equal
 abbrev pub HasValue : Fraction → Quadratic → ℕ → Type 0
 HasValue x num den = scale den x.num ≡ scale x.den num

@@ -11,12 +11,12 @@ use Rattle.fs_fraction.specs.Fraction.{Fraction, reduced}
 
 -- ---- numbers as they are written
 
--- a quotient without a sign: the digits before the stroke, and those behind it where there is one
-pub record Quotient : Type 0 where
+-- a ratio without a sign: the digits before the stroke, and those after it where there is one
+pub record Ratio : Type 0 where
   pub over : List ℕ
   pub under : Option (List ℕ)
 
--- the digits behind the stroke, where there is one, as a list of runs
+-- the digits after the stroke, where there is one, as a list of runs
 abbrev pub under_runs : Option (List ℕ) → List (List ℕ)
 under_runs None = []
 under_runs (Some digits) = digits ∷ []
@@ -26,14 +26,14 @@ under_text None = []
 under_text (Some digits) = 47 ∷ digits
 
 -- 3, 3/4
-abbrev pub quotient_text : Quotient → List ℕ
-quotient_text a = a.over ++ under_text a.under
+abbrev pub ratio_text : Ratio → List ℕ
+ratio_text a = a.over ++ under_text a.under
 
--- a number: one part, one part before √d, or one of each. True stands for a minus sign
+-- a number: a rational part, an r part, or both. True means a minus sign
 pub data Written : Type 0 where
-  Rational : Bool → Quotient → Written
-  Root : Bool → Quotient → Written
-  Both : Bool → Quotient → Bool → Quotient → Written
+  Rational : Bool → Ratio → Written
+  Root : Bool → Ratio → Written
+  Both : Bool → Ratio → Bool → Ratio → Written
 
 -- the sign before a first part
 abbrev pub sign_text : Bool → List ℕ
@@ -41,17 +41,17 @@ sign_text true = 45 ∷ []
 sign_text false = []
 
 -- the sign between two parts
-abbrev pub joint_text : Bool → List ℕ
-joint_text true = 45 ∷ []
-joint_text false = 43 ∷ []
+abbrev pub middle_sign_text : Bool → List ℕ
+middle_sign_text true = 45 ∷ []
+middle_sign_text false = 43 ∷ []
 
 -- -3/4, 2r, 1/2-3r
 abbrev pub written_text : Written → List ℕ
-written_text (Rational minus a) = sign_text minus ++ quotient_text a
-written_text (Root minus a) = sign_text minus ++ (quotient_text a ++ 114 ∷ [])
-written_text (Both minus a minus' b) = sign_text minus ++ (quotient_text a ++ (joint_text minus' ++ (quotient_text b ++ 114 ∷ [])))
+written_text (Rational minus a) = sign_text minus ++ ratio_text a
+written_text (Root minus a) = sign_text minus ++ (ratio_text a ++ 114 ∷ [])
+written_text (Both minus a minus' b) = sign_text minus ++ (ratio_text a ++ (middle_sign_text minus' ++ (ratio_text b ++ 114 ∷ [])))
 
--- the runs of digits behind a stroke
+-- the runs of digits after a stroke
 abbrev pub denominators : Written → List (List ℕ)
 denominators (Rational minus a) = under_runs a.under
 denominators (Root minus a) = under_runs a.under
@@ -83,7 +83,7 @@ abbrev pub signed : Bool → ℕ → ℤ
 signed true n = neg_ℤ (pos n)
 signed false n = pos n
 
-abbrev pub over_value : Bool → Quotient → ℤ
+abbrev pub over_value : Bool → Ratio → ℤ
 over_value minus a = signed minus (digits_value 10 a.over)
 
 -- 1 without a stroke
@@ -99,30 +99,30 @@ value (Both minus a minus' b) = reduced
     (record { p = over_value minus a *ℤ pos (under_value b.under); q = over_value minus' b *ℤ pos (under_value a.under) })
     (under_value a.under * under_value b.under)
 
--- what is read of a text: its number; that it is too wide; or that it is none
+-- what is read of a text: its number; `Wide`; or `BadNumber`, for a denominator 0 or for a text that spells none
 pub data Reads (text : List ℕ) (result : Result Fraction NumberFault) : Type 0 where
   number : (w : Written) → Spells text w → IsNarrow w → IsDefined w → result ≡ Ok (value w) → Reads text result
-  too_wide : (w : Written) → Spells text w → ¬ IsNarrow w → result ≡ Err Wide → Reads text result
-  undefined : (w : Written) → Spells text w → IsNarrow w → ¬ IsDefined w → result ≡ Err BadNumber → Reads text result
-  foreign : ((w : Written) → ¬ Spells text w) → result ≡ Err BadNumber → Reads text result
+  wide_number : (w : Written) → Spells text w → ¬ IsNarrow w → result ≡ Err Wide → Reads text result
+  zero_denominator : (w : Written) → Spells text w → IsNarrow w → ¬ IsDefined w → result ≡ Err BadNumber → Reads text result
+  no_number : ((w : Written) → ¬ Spells text w) → result ≡ Err BadNumber → Reads text result
 
 -- ---- the one spelling of a fraction
 
 -- n/m in lowest terms; a denominator of 1 isn't written
-abbrev pub quotient_spelling : ℕ → ℕ → List ℕ
-quotient_spelling n m = decimal (n / gcd n m) ++ (if m / gcd n m == 1 then [] else 47 ∷ decimal (m / gcd n m))
+abbrev pub ratio_spelling : ℕ → ℕ → List ℕ
+ratio_spelling n m = decimal (n / gcd n m) ++ (if m / gcd n m == 1 then [] else 47 ∷ decimal (m / gcd n m))
 
--- the rational part alone
+-- the rational part with its sign
 abbrev pub rational_spelling : ℤ → ℕ → List ℕ
-rational_spelling p den = sign_text (is_negative p) ++ quotient_spelling (unsigned_abs p) den
+rational_spelling p den = sign_text (is_negative p) ++ ratio_spelling (unsigned_abs p) den
 
--- a part before √d behind a sign
-abbrev pub root_spelling : ℤ → ℕ → List ℕ
-root_spelling q den = quotient_spelling (unsigned_abs q) den ++ 114 ∷ []
+-- the r part without its sign
+abbrev pub r_part_spelling : ℤ → ℕ → List ℕ
+r_part_spelling q den = ratio_spelling (unsigned_abs q) den ++ 114 ∷ []
 
 -- a part that is 0 isn't written, but for the number 0
 abbrev pub spelling : Fraction → List ℕ
 spelling x =
     if unsigned_abs x.num.q == 0 then rational_spelling x.num.p x.den
-    else if unsigned_abs x.num.p == 0 then sign_text (is_negative x.num.q) ++ root_spelling x.num.q x.den
-    else rational_spelling x.num.p x.den ++ (joint_text (is_negative x.num.q) ++ root_spelling x.num.q x.den)
+    else if unsigned_abs x.num.p == 0 then sign_text (is_negative x.num.q) ++ r_part_spelling x.num.q x.den
+    else rational_spelling x.num.p x.den ++ (middle_sign_text (is_negative x.num.q) ++ r_part_spelling x.num.q x.den)

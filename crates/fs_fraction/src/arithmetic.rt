@@ -5,19 +5,20 @@ ghost use Rattle.fs_fraction.specs.Arithmetic.{negated, sum, SumFits, product, P
 
 use crate::divisor::greatest_divisor;
 use crate::fraction::{Frac, FracStop, content, divide, in_lowest_terms};
-use crate::width::{checked_norm, checked_scale, checked_size};
+use crate::width::{checked_norm, checked_scale};
+use fs_quadratic::width::checked_natural_product;
 use fs_quadratic::{Elem, Field};
 
-/// The exact sum, or `Overflow` exactly where a number on the way leaves the width: the least
+/// The exact sum, or `Overflow` exactly where a number of its computation overflows: the least
 /// common multiple of the denominators, a part of a numerator over it, or a part of their sum.
 pub fn add(_field: Field, x: Frac, y: Frac) -> Result<Frac, FracStop>
     ensures { OkIff result (SumFits x y) (sum x y) }
 {
-    let m = x.size();
-    let n = y.size();
+    let m = x.denominator();
+    let n = y.denominator();
     let common = greatest_divisor(m, n);
     match (
-        checked_size(m, n / common),
+        checked_natural_product(m, n / common),
         checked_scale(n / common, x.num()),
         checked_scale(m / common, y.num()),
     ) {
@@ -29,38 +30,38 @@ pub fn add(_field: Field, x: Frac, y: Frac) -> Result<Frac, FracStop>
     }
 }
 
-/// The exact difference, or `Overflow` exactly where the sum with `-y` leaves the width.
+/// The exact difference, or `Overflow` exactly where the sum of x and -y overflows.
 pub fn sub(field: Field, x: Frac, y: Frac) -> Result<Frac, FracStop>
     ensures { OkIff result (SumFits x (negated y)) (sum x (negated y)) }
 {
     add(field, x, y.neg())
 }
 
-/// The exact product, or `Overflow` exactly where a number on the way leaves the width. Each
+/// The exact product, or `Overflow` exactly where a number of its computation overflows. Each
 /// numerator is first divided by what it has in common with the other denominator.
 pub fn mul(field: Field, x: Frac, y: Frac) -> Result<Frac, FracStop>
     ensures { OkIff result (ProductFits field.d x y) (product field.d x y) }
 {
-    let m = x.size();
-    let n = y.size();
+    let m = x.denominator();
+    let n = y.denominator();
     let left = greatest_divisor(content(x.num()), n);
     let right = greatest_divisor(content(y.num()), m);
     match (
         field.mul(divide(x.num(), left), divide(y.num(), right)),
-        checked_size(m / right, n / left),
+        checked_natural_product(m / right, n / left),
     ) {
         (Ok(num), Some(den)) => Ok(in_lowest_terms(num, den)),
         _ => Err(FracStop::Overflow),
     }
 }
 
-/// One over x, which isn't 0, or `Overflow` exactly where a number on the way leaves the width.
+/// The inverse of x, which isn't 0, or `Overflow` exactly where a number of its computation overflows.
 /// The numerator is first divided by what its parts have in common.
 pub fn inv(field: Field, x: Frac) -> Result<Frac, FracStop>
     requires { x.num ≢ zero }
     ensures { OkIff result (ReciprocalFits field.d x) (reciprocal field.d x) }
 {
-    let m = x.size();
+    let m = x.denominator();
     let common = content(x.num());
     let inner = greatest_divisor(m, common);
     let primitive = divide(x.num(), common);
@@ -69,7 +70,7 @@ pub fn inv(field: Field, x: Frac) -> Result<Frac, FracStop>
         checked_scale(m / inner, primitive),
     ) {
         (Some(norm), Some(num)) => {
-            match checked_size(common / inner, norm.unsigned_abs()) {
+            match checked_natural_product(common / inner, norm.unsigned_abs()) {
                 Some(den) => Ok(in_lowest_terms(with_sign(norm, conjugate(num)), den)),
                 None => Err(FracStop::Overflow),
             }
@@ -79,7 +80,7 @@ pub fn inv(field: Field, x: Frac) -> Result<Frac, FracStop>
 }
 
 /// x times the inverse of y, which isn't 0, or `Overflow` exactly where the inverse or that
-/// product leaves the width.
+/// product overflows.
 pub fn div(field: Field, x: Frac, y: Frac) -> Result<Frac, FracStop>
     requires { y.num ≢ zero }
     ensures { OkIff result (QuotientFits field.d x y) (quotient field.d x y) }
@@ -97,7 +98,7 @@ fn conjugate(x: Elem) -> Elem
     Elem::new(x.p(), -x.q())
 }
 
-// x, with both signs turned where z is below 0.
+// x, or its negation where z is below 0.
 fn with_sign(z: i128, x: Elem) -> Elem
     ensures { result ≡ with_sign z x }
 {

@@ -16,7 +16,7 @@ fn split_digits(text: &[u8]) -> (&[u8], &[u8])
     (text, &[])
 }
 
-// The same, where there is a digit or more.
+// The one digit or more that a text begins with, and the rest.
 pub fn split_numeral(text: &[u8]) -> Option<(&[u8], &[u8])>
     ensures { MatchOption result
         (Stops IsDigit text.now)
@@ -30,7 +30,7 @@ pub fn split_numeral(text: &[u8]) -> Option<(&[u8], &[u8])>
     }
 }
 
-// The number that at most 18 digits stand for.
+// The number that at most 18 digits spell.
 pub fn number(digits: &[u8]) -> u64
     requires digits { AllDigits 10 digits.now }
     requires few { length digits.now ≤ 18 }

@@ -8,9 +8,10 @@ use crate::divisor::greatest_divisor;
 use fs_quadratic::Elem;
 use std::marker::Model;
 
-/// Why two fractions have no answer.
+/// Why an operation on fractions has no result.
 #[derive(Clone, Copy, Debug, PartialEq, Eq)]
 pub enum FracStop {
+    /// A number of the computation overflows.
     Overflow,
 }
 
@@ -52,7 +53,7 @@ impl Frac {
         self.num
     }
 
-    /// The denominator, which is above 0.
+    /// The denominator as an integer, which is above 0.
     pub fn den(self) -> i128
         ensures value { result ≡ pos self.den }
         ensures lowest { IsLowest self.num self.den }
@@ -60,15 +61,15 @@ impl Frac {
         self.den as i128
     }
 
-    // The denominator as a size.
-    pub(crate) fn size(self) -> u128
+    /// The denominator as a natural number, the type in which it is kept and computed with.
+    pub fn denominator(self) -> u128
         ensures value { result ≡ self.den }
         ensures lowest { IsLowest self.num self.den }
     {
         self.den
     }
 
-    /// The number with both signs turned.
+    /// The negation.
     pub fn neg(self) -> Frac
         ensures { result ≡ negated self }
     {

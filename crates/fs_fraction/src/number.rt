@@ -19,7 +19,7 @@ pub enum NumberFault {
     Wide,
 }
 
-/// The number that a text spells: one part, as `-3/4`; one part before √d, as `1/2r`; or one of
+/// The number that a text spells: a rational part, as `-3/4`; an r part, as `1/2r`; or one of
 /// each with a sign between them, as `-1+1/2r`. Leading zeros are allowed. A number of at most 18
 /// digits a run always fits.
 pub fn read_number(text: &[u8]) -> Result<Frac, NumberFault>

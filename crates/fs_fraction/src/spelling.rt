@@ -2,16 +2,16 @@ ghost use Rattle.std.specs.Prelude.{◌≡◌, ◌<◌, ◌++◌, IfOk, string_b
 ghost use Rattle.std.specs.Int.{is_negative};
 ghost use Rattle.fs_quadratic.specs.Width.{Fits};
 ghost use Rattle.fs_fraction.specs.Fraction.{IsLowest};
-ghost use Rattle.fs_fraction.specs.Number.{quotient_spelling, rational_spelling, root_spelling, spelling, sign_text, joint_text};
+ghost use Rattle.fs_fraction.specs.Number.{ratio_spelling, rational_spelling, r_part_spelling, spelling, sign_text, middle_sign_text};
 
 use crate::divisor::greatest_divisor;
 use crate::fraction::Frac;
 use std::alloc::{AllocError, Global};
 
 // n/m in lowest terms. A denominator of 1 isn't written.
-fn quotient_text(alloc: Global, n: u128, m: u128) -> Result<String, AllocError>
+fn ratio_text(alloc: Global, n: u128, m: u128) -> Result<String, AllocError>
     requires { 0 < m }
-    ensures { IfOk result (λ text. string_bytes text ≡ quotient_spelling n m) }
+    ensures { IfOk result (λ text. string_bytes text ≡ ratio_spelling n m) }
 {
     let common = greatest_divisor(n, m);
     let (over, under) = (n / common, m / common);
@@ -30,8 +30,8 @@ fn sign(z: i128) -> &'static str
 }
 
 // The sign between two parts.
-fn joint(z: i128) -> &'static str
-    ensures { result.now ≡ joint_text (is_negative z) }
+fn middle_sign(z: i128) -> &'static str
+    ensures { result.now ≡ middle_sign_text (is_negative z) }
 {
     if z < 0 { "-" } else { "+" }
 }
@@ -41,17 +41,17 @@ fn rational_text(alloc: Global, p: i128, den: u128) -> Result<String, AllocError
     requires { 0 < den }
     ensures { IfOk result (λ text. string_bytes text ≡ rational_spelling p den) }
 {
-    let quotient = quotient_text(alloc, p.unsigned_abs(), den)?;
+    let quotient = ratio_text(alloc, p.unsigned_abs(), den)?;
     let minus = sign(p);
     format!(in alloc; "{minus}{quotient}")
 }
 
-// The part before √d alone.
-fn root_text(alloc: Global, q: i128, den: u128) -> Result<String, AllocError>
+// The r part alone.
+fn r_part_text(alloc: Global, q: i128, den: u128) -> Result<String, AllocError>
     requires { 0 < den }
-    ensures { IfOk result (λ text. string_bytes text ≡ sign_text (is_negative q) ++ root_spelling q den) }
+    ensures { IfOk result (λ text. string_bytes text ≡ sign_text (is_negative q) ++ r_part_spelling q den) }
 {
-    let quotient = quotient_text(alloc, q.unsigned_abs(), den)?;
+    let quotient = ratio_text(alloc, q.unsigned_abs(), den)?;
     let minus = sign(q);
     format!(in alloc; "{minus}{quotient}r")
 }
@@ -59,12 +59,12 @@ fn root_text(alloc: Global, q: i128, den: u128) -> Result<String, AllocError>
 // Both parts, with a sign between them.
 fn both_text(alloc: Global, p: i128, q: i128, den: u128) -> Result<String, AllocError>
     requires { 0 < den }
-    ensures { IfOk result (λ text. string_bytes text ≡ rational_spelling p den ++ (joint_text (is_negative q) ++ root_spelling q den)) }
+    ensures { IfOk result (λ text. string_bytes text ≡ rational_spelling p den ++ (middle_sign_text (is_negative q) ++ r_part_spelling q den)) }
 {
     let rational = rational_text(alloc, p, den)?;
-    let joint = joint(q);
-    let quotient = quotient_text(alloc, q.unsigned_abs(), den)?;
-    format!(in alloc; "{rational}{joint}{quotient}r")
+    let middle_sign = middle_sign(q);
+    let quotient = ratio_text(alloc, q.unsigned_abs(), den)?;
+    format!(in alloc; "{rational}{middle_sign}{quotient}r")
 }
 
 // The one spelling of a fraction.
@@ -73,11 +73,11 @@ pub fn spelling(alloc: Global, x: Frac) -> Result<String, AllocError>
     ensures fits { Fits x.num }
     ensures lowest { IsLowest x.num x.den }
 {
-    let (p, q, den) = (x.num().p(), x.num().q(), x.size());
+    let (p, q, den) = (x.num().p(), x.num().q(), x.denominator());
     if q == 0 {
         rational_text(alloc, p, den)
     } else if p == 0 {
-        root_text(alloc, q, den)
+        r_part_text(alloc, q, den)
     } else {
         both_text(alloc, p, q, den)
     }

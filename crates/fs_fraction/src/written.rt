@@ -1,24 +1,24 @@
 ghost use Rattle.std.specs.Prelude.{◌≡◌, ◌++◌, ℕ, Bool, false, List, MatchOption};
-ghost use Rattle.fs_fraction.specs.Number.{Quotient as QuotientText, Written as WrittenText, Spells, sign_text};
-ghost use Rattle.fs_fraction.specs.Parts.{Begins, SpellsSecond, Stops, quotient_of, written_of};
+ghost use Rattle.fs_fraction.specs.Number.{Ratio as RatioText, Written as WrittenText, Spells, sign_text};
+ghost use Rattle.fs_fraction.specs.Parts.{Begins, SpellsSecond, Stops, ratio_of, written_of};
 
 use crate::digits::split_numeral;
 
-// A quotient without a sign, as it is written: `3`, `3/4`.
+// A ratio without a sign, as it is written: `3`, `3/4`.
 #[derive(Clone, Copy)]
-pub struct Quotient<'a> {
+pub struct Ratio<'a> {
     pub over: &'a [u8],
     pub under: Option<&'a [u8]>,
 }
 
-// A quotient with its sign, where true stands for a minus sign.
+// A ratio with its sign. True means a minus sign.
 #[derive(Clone, Copy)]
 pub struct Part<'a> {
     pub minus: bool,
-    pub quotient: Quotient<'a>,
+    pub ratio: Ratio<'a>,
 }
 
-// A number as it is written: one part, one part before √d, or one of each.
+// A number as it is written: a rational part, an r part, or both.
 #[derive(Clone, Copy)]
 pub enum Written<'a> {
     Rational(Part<'a>),
@@ -37,37 +37,37 @@ fn strip_minus(text: &[u8]) -> (bool, &[u8])
     }
 }
 
-// The quotient that a text begins with, and the rest.
-fn split_quotient(text: &[u8]) -> Option<(Quotient<'_>, &[u8])>
+// The ratio that a text begins with, and the rest.
+fn split_ratio(text: &[u8]) -> Option<(Ratio<'_>, &[u8])>
     ensures { MatchOption result
-        ((a : QuotientText) (rest : List ℕ) → ¬ Begins text.now a rest)
-        (λ parts. Begins text.now (quotient_of parts.0) parts.1.now) }
+        ((a : RatioText) (rest : List ℕ) → ¬ Begins text.now a rest)
+        (λ parts. Begins text.now (ratio_of parts.0) parts.1.now) }
 {
     let (over, rest) = split_numeral(text)?;
     match rest.split_first() {
         Some((b'/', rest)) => {
             let (under, rest) = split_numeral(rest)?;
             let under = Some(under);
-            Some((Quotient { over, under }, rest))
+            Some((Ratio { over, under }, rest))
         }
-        _ => Some((Quotient { over, under: None }, rest)),
+        _ => Some((Ratio { over, under: None }, rest)),
     }
 }
 
-// A second part: its sign, a quotient, and the letter r.
+// A second part: its sign, a ratio, and the letter r.
 fn second_part(text: &[u8]) -> Option<Part<'_>>
     ensures { MatchOption result
-        ((minus : Bool) (a : QuotientText) → ¬ SpellsSecond text.now minus a)
-        (λ part. SpellsSecond text.now part.minus (quotient_of part.quotient)) }
+        ((minus : Bool) (a : RatioText) → ¬ SpellsSecond text.now minus a)
+        (λ part. SpellsSecond text.now part.minus (ratio_of part.ratio)) }
 {
     let (sign, rest) = text.split_first()?;
     if *sign != b'+' && *sign != b'-' {
         return None;
     }
-    let (quotient, tail) = split_quotient(rest)?;
+    let (ratio, tail) = split_ratio(rest)?;
     if tail == b"r".as_slice() {
         let minus = *sign == b'-';
-        Some(Part { minus, quotient })
+        Some(Part { minus, ratio })
     } else {
         None
     }
@@ -80,8 +80,8 @@ pub fn parse(text: &[u8]) -> Option<Written<'_>>
         (λ w. Spells text.now (written_of w)) }
 {
     let (minus, rest) = strip_minus(text);
-    let (quotient, tail) = split_quotient(rest)?;
-    let first = Part { minus, quotient };
+    let (ratio, tail) = split_ratio(rest)?;
+    let first = Part { minus, ratio };
     if tail.is_empty() {
         return Some(Written::Rational(first));
     }

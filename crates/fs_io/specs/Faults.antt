@@ -1,7 +1,7 @@
--- Counts of faults: they never fall, and stand still at their type's end.
+-- Counts of faults: they never fall, and saturate at 2^64 - 1.
 use Rattle.std.specs.Prelude.{◌≡◌, ℕ, ◌+◌, ◌-◌, ◌^◌, ◌<◌, ◌≤◌, ◌⊎◌, min, Result, IsErr}
 
--- the last value of a count, where it stays
+-- the last value of a count, where it saturates
 abbrev pub last_count : ℕ
 last_count = 2 ^ 64 - 1
 

@@ -2,7 +2,7 @@
 use Rattle.std.specs.Prelude.{ℕ, List}
 
 -- what is left, the most that one call gives, the numbers of the calls that fail, and the two counts
-pub record Reserve : Type 0 where
+pub record SourceState : Type 0 where
   pub left : List ℕ
   pub piece : ℕ
   pub failing : List ℕ
@@ -10,7 +10,7 @@ pub record Reserve : Type 0 where
   pub faults : ℕ
 
 -- what is held, how much may be held, the numbers of the calls that fail, and the two counts
-pub record Basin : Type 0 where
+pub record SinkState : Type 0 where
   pub held : List ℕ
   pub room : ℕ
   pub failing : List ℕ

@@ -10,6 +10,6 @@ most_bytes = 1048576
 abbrev pub TakesPrefix : Option (List ℕ) → Option (List ℕ) → Type 0
 TakesPrefix old new = (taken : List ℕ) × Consumes old new taken
 
--- to the known bytes that were held, the front of the piece was added
+-- to the known bytes that were held, a prefix of the piece was added
 abbrev pub AppendsPrefix : Option (List ℕ) → Option (List ℕ) → List ℕ → Type 0
-AppendsPrefix old new piece = (front : List ℕ) × (rest : List ℕ) × (piece ≡ front ++ rest) × Appends old new front
+AppendsPrefix old new piece = (prefix : List ℕ) × (rest : List ℕ) × (piece ≡ prefix ++ rest) × Appends old new prefix

@@ -22,9 +22,9 @@ pub struct MemSource {
 impl Model for MemSource {
     ghost use Rattle.std.specs.Prelude.{◌≤◌, ◌<◌, drop, vec_len};
     ghost use Rattle.fs_io.specs.Faults.{last_count};
-    ghost use Rattle.fs_io.specs.Memory.{Reserve};
+    ghost use Rattle.fs_io.specs.Memory.{SourceState};
 
-    ghost Value = { Reserve };
+    ghost Value = { SourceState };
 
     ghost view = { λ s. record {
       left = drop s.at s.bytes.items;
@@ -38,8 +38,8 @@ impl Model for MemSource {
 }
 
 impl MemSource {
-    /// Gives these bytes, at most `piece` of them a call. The calls whose numbers, from 0, stand
-    /// in `failing` fail. The number of a call stays at 2^64 - 1 once it is there.
+    /// Gives these bytes, at most `piece` of them a call. The calls whose numbers, from 0, are
+    /// in `failing` fail. The count of calls saturates at 2^64 - 1.
     pub fn new(bytes: Vec<u8>, piece: usize, failing: Vec<u64>) -> MemSource
         requires { 0 < piece }
         ensures { result ≡ record {
@@ -108,7 +108,7 @@ impl Source for MemSource {
     }
 }
 
-/// Bytes in memory, up to a room that is taken when it is made. Chosen calls of `put` fail.
+/// Bytes in memory, up to a capacity that is allocated when it is made. Chosen calls of `put` fail.
 #[derive(Drop)]
 pub struct MemSink {
     bytes: Vec<u8>,
@@ -121,9 +121,9 @@ pub struct MemSink {
 impl Model for MemSink {
     ghost use Rattle.std.specs.Prelude.{◌≤◌, vec_len, vec_capacity};
     ghost use Rattle.fs_io.specs.Faults.{last_count};
-    ghost use Rattle.fs_io.specs.Memory.{Basin};
+    ghost use Rattle.fs_io.specs.Memory.{SinkState};
 
-    ghost Value = { Basin };
+    ghost Value = { SinkState };
 
     ghost view = { λ s. record {
       held = s.bytes.items;
@@ -137,9 +137,9 @@ impl Model for MemSink {
 }
 
 impl MemSink {
-    /// Holds nothing yet, and at most `room` bytes. The calls whose numbers, from 0, stand in
-    /// `failing` fail, and so does one that finds no room. The number of a call stays at
-    /// 2^64 - 1 once it is there.
+    /// Holds nothing yet, and at most `room` bytes. The calls whose numbers, from 0, are in
+    /// `failing` fail, and so does one that finds no room. The count of calls saturates at
+    /// 2^64 - 1.
     pub fn new(alloc: Global, room: usize, failing: Vec<u64>) -> Result<MemSink, NoMemory>
         ensures { IfOk result (λ sink. sink ≡ record {
           held = [];

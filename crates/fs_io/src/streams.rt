@@ -15,7 +15,7 @@ pub trait Source {
     /// How often it has failed.
     ghost faults: { Self → ℕ };
 
-    /// Takes some of what is left into the front of a buffer, and answers how many bytes.
+    /// Takes some of what is left into the beginning of a buffer, and returns how many bytes.
     /// `Ok(0)` on a buffer that isn't empty is the end. A failure takes nothing.
     fn take(&mut self, into: &mut [u8]) -> Result<usize, Failed>
         ensures bound { ReadsAtMost result into.new }
@@ -31,7 +31,7 @@ pub trait Sink {
     /// How often it has failed.
     ghost faults: { Self → ℕ };
 
-    /// Appends the front of a piece, and answers how many bytes: at least one, where the piece
+    /// Appends a prefix of a piece, and returns how many bytes: at least one, where the piece
     /// has any. A failure appends nothing.
     fn put(&mut self, piece: &[u8]) -> Result<usize, Failed>
         ensures bound { WritesAtMost result piece.now }

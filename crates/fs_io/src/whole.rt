@@ -6,7 +6,7 @@ ghost use Rattle.fs_io.specs.Whole.{most_bytes, TakesPrefix, AppendsPrefix};
 use crate::streams::{Sink, Source};
 use std::alloc::Global;
 
-/// Memory ran out.
+/// Out of memory.
 #[derive(Clone, Copy, Debug, PartialEq, Eq)]
 pub struct NoMemory;
 
@@ -17,7 +17,7 @@ pub enum ReadStop {
     TooLong,
     /// The source failed.
     ReadFault,
-    /// Memory ran out.
+    /// Out of memory.
     NoMemory,
 }
 

@@ -1,4 +1,4 @@
--- A call that answers exactly where its numbers fit is a step of a checked computation.
+-- A call that gives a value exactly where its numbers fit is a step of a checked computation.
 use Rattle.std.proofs.Common.{◌≡◌, ℕ, ◌+◌, Bool, true, false, cond, Result, Ok, Err, refl, sym, ap, ◌∙◌, subst, ◌↔◌}
 use Rattle.std.specs.Bool.{Decides}
 use Rattle.std.specs.Result.{OkIff, MatchResult}

@@ -1,4 +1,4 @@
--- Checked computations: steps in turn, each with its place. One gives its value, or the place of its first step that leaves the width.
+-- Checked computations: steps in turn, each with its place. One gives its value, or the place of its first step that overflows.
 use Rattle.std.specs.Prelude.{◌≡◌, ℕ, ◌+◌, Bool, cond, Result, Ok, Err}
 use Rattle.fs_quadratic.specs.Ring.{Quadratic, add, sub, mul}
 use Rattle.fs_quadratic.specs.Width.{is_fitting, is_fitting_mul}
@@ -31,7 +31,7 @@ checked_sum n x y = step n (is_fitting (add x y)) (add x y)
 abbrev pub checked_difference : ℕ → Quadratic → Quadratic → Result Quadratic Place
 checked_difference n x y = step n (is_fitting (sub x y)) (sub x y)
 
--- of three steps in turn, the numbers of each being within the width under P, Q and S, the first that leaves it has this place
+-- of three steps in turn, the numbers of each being within the width under P, Q and S, the first that overflows has this place
 pub data IsFirstOfThree (P Q S : Type 0) (before : ℕ) (stop : Place) : Type 0 where
   first : ¬ P → stop ≡ place (before + 1) → IsFirstOfThree P Q S before stop
   second : P → ¬ Q → stop ≡ place (before + 2) → IsFirstOfThree P Q S before stop

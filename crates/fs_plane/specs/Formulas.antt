@@ -1,4 +1,4 @@
--- The formulas of the plane as checked computations. Their places follow those of the steps that stand before them.
+-- The formulas of the plane as checked computations. Their places follow those of the steps before them.
 use Rattle.std.specs.Prelude.{ℕ, ◌+◌, Bool, false, Result, Ok}
 use Rattle.std.specs.Ordering.{is_gt}
 use Rattle.std.specs.declared.cmp.Ordering.{Ordering}

@@ -41,7 +41,7 @@ vector_total_from a (b ∷ bs) = vector_total_from (vector_add a b) bs
 abbrev pub vector_total : List PlaneVector → PlaneVector
 vector_total vectors = vector_total_from vector_zero vectors
 
--- the cross product: positive where b stands to the left of a
+-- the cross product: positive where b is to the left of a
 abbrev pub cross : ℕ → PlaneVector → PlaneVector → Quadratic
 cross d a b = plane.cross (quadratic d) a b
 
@@ -49,7 +49,7 @@ cross d a b = plane.cross (quadratic d) a b
 abbrev pub dot : ℕ → PlaneVector → PlaneVector → Quadratic
 dot d a b = plane.dot (quadratic d) a b
 
--- v stands in the sector of a corner: it runs counterclockwise from the side that begins there, included, to the opposite of the side that ends there, excluded
+-- v is in the sector of a corner, which runs counterclockwise from the side that begins there, included, to the opposite of the side that ends there, excluded
 abbrev pub IsInSector : ℕ → PlaneVector → PlaneVector → PlaneVector → Type 0
 IsInSector d outgoing incoming v = InSector (quadratic d) (IsPositive d) outgoing (vector_neg incoming) v
 

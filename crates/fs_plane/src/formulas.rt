@@ -8,7 +8,7 @@ use crate::vector::V2;
 use fs_quadratic::{Elem, Field};
 use std::cmp::Ordering;
 
-/// The cross product a.x·b.y - a.y·b.x, or the first place that leaves the width: place 1 is
+/// The cross product a.x·b.y - a.y·b.x, or the first place that overflows: place 1 is
 /// a.x·b.y, place 2 is a.y·b.x, and place 3 their difference.
 pub fn cross(field: Field, a: V2, b: V2) -> Result<Elem, Place>
     ensures { result ≡ cross_after 0 field.d a b }
@@ -16,7 +16,7 @@ pub fn cross(field: Field, a: V2, b: V2) -> Result<Elem, Place>
     cross_after(0, field, a, b)
 }
 
-// The same behind so many other places.
+// The cross product as a part of a formula, its places counted on from `before`.
 fn cross_after(before: u32, field: Field, a: V2, b: V2) -> Result<Elem, Place>
     requires { before + 3 < 2 ^ 32 }
     ensures { result ≡ cross_after before field.d a b }
@@ -28,7 +28,7 @@ fn cross_after(before: u32, field: Field, a: V2, b: V2) -> Result<Elem, Place>
     }
 }
 
-// The same for vectors of any size.
+// The cross product of vectors of any size.
 #[tactic(auto, unfolding(crate::specs::Formulas::cross_after))]
 fn cross_checked(before: u32, field: Field, a: V2, b: V2) -> Result<Elem, Place>
     requires { before + 3 < 2 ^ 32 }
@@ -39,7 +39,7 @@ fn cross_checked(before: u32, field: Field, a: V2, b: V2) -> Result<Elem, Place>
     difference_at(before + 3, left, right)
 }
 
-/// The dot product a.x·b.x + a.y·b.y, or the first place that leaves the width: place 1 is
+/// The dot product a.x·b.x + a.y·b.y, or the first place that overflows: place 1 is
 /// a.x·b.x, place 2 is a.y·b.y, and place 3 their sum.
 pub fn dot(field: Field, a: V2, b: V2) -> Result<Elem, Place>
     ensures { result ≡ dot_after 0 field.d a b }
@@ -47,7 +47,7 @@ pub fn dot(field: Field, a: V2, b: V2) -> Result<Elem, Place>
     dot_after(0, field, a, b)
 }
 
-// The same behind so many other places.
+// The dot product as a part of a formula, its places counted on from `before`.
 fn dot_after(before: u32, field: Field, a: V2, b: V2) -> Result<Elem, Place>
     requires { before + 3 < 2 ^ 32 }
     ensures { result ≡ dot_after before field.d a b }
@@ -59,7 +59,7 @@ fn dot_after(before: u32, field: Field, a: V2, b: V2) -> Result<Elem, Place>
     }
 }
 
-// The same for vectors of any size.
+// The dot product of vectors of any size.
 #[tactic(auto, unfolding(crate::specs::Formulas::dot_after))]
 fn dot_checked(before: u32, field: Field, a: V2, b: V2) -> Result<Elem, Place>
     requires { before + 3 < 2 ^ 32 }
@@ -79,15 +79,15 @@ pub fn norm(field: Field, a: V2) -> Result<Elem, Place>
     dot(field, a, same)
 }
 
-/// Whether v is in the sector of a corner: from the side that goes out there, included,
-/// counterclockwise to the opposite of the side that comes in there, excluded. The sector is less
+/// Whether v is in the sector of a corner: from the side that begins there, included,
+/// counterclockwise to the opposite of the side that ends there, excluded. The sector is less
 /// than half a turn.
 ///
 /// Places 1 to 3 are the cross product of the outgoing side and v: where it is below 0, v isn't in
 /// the sector. Places 4 to 6 are their dot product, where the cross product is 0: v is in the
 /// sector if the dot product is above 0. Places 7 to 9 are the cross product of v and the opposite
 /// of the incoming side, where the first one is above 0: v is in the sector if this is above 0
-/// too. The answer is the first place that leaves the width, where one does.
+/// too. The error is the first place that overflows, where one does.
 pub fn in_sector(field: Field, out: V2, incoming: V2, v: V2) -> Result<bool, Place>
     ensures formula { result ≡ in_sector_after 0 field.d out incoming v }
     ensures sector { IfOk result (λ held. IsTrue held ↔ IsInSector field.d out incoming v) }
@@ -95,7 +95,7 @@ pub fn in_sector(field: Field, out: V2, incoming: V2, v: V2) -> Result<bool, Pla
     test_sector(field, out, incoming, v)
 }
 
-// The same by its formula alone.
+// The sector test by its formula alone.
 #[tactic(auto, unfolding(crate::specs::Formulas::in_sector_after))]
 fn test_sector(field: Field, out: V2, incoming: V2, v: V2) -> Result<bool, Place>
     ensures { result ≡ in_sector_after 0 field.d out incoming v }

@@ -1,9 +1,14 @@
-/// The number, from 1, of the operation of a formula whose exact result leaves the width.
+ghost use Rattle.std.specs.Prelude.{◌≡◌};
+ghost use Rattle.fs_plane.specs.declared.sites.Site.{Site};
+
+use crate::corners::Corner;
+
+/// The number, from 1, of the operation of a formula that overflows.
 #[derive(Clone, Copy, Debug, PartialEq, Eq, PartialOrd, Ord, Hash)]
 pub struct Place(pub u32);
 
-/// Where a computation stopped: a formula, what it was applied to, and the place in it. The
-/// numbers stand in the order in which they are printed.
+/// Where a computation overflows: a formula, what it was applied to, and the place in it. The
+/// numbers are in the order in which they are printed.
 #[derive(Clone, Copy, Debug, PartialEq, Eq, Hash)]
 pub enum Site {
     /// A coordinate of side `side` of a polygon, times the common denominator: places 1 and 2 are
@@ -14,7 +19,7 @@ pub enum Site {
         side: u32,
         place: u32,
     },
-    /// The place of vertex `side` of a polygon plus that side: place 1 is x, place 2 is y.
+    /// The position of corner `side` of a polygon plus that side: place 1 is x, place 2 is y.
     Close {
         polygon: u32,
         side: u32,
@@ -27,26 +32,84 @@ pub enum Site {
         place: u32,
     },
     /// The area of a polygon's triangle of corner 0, corner `corner` and the next one: places 1 to
-    /// 3 are the cross product of the places of the latter two, place 4 its sum with what came
-    /// before.
+    /// 3 are the cross product of the positions of the latter two, place 4 its sum with that of
+    /// the triangles before.
     Area {
         polygon: u32,
         corner: u32,
         place: u32,
     },
-    /// The area in true size: half of that sum over the denominator is place 1, and this over the
+    /// The unscaled area: half of that sum over the denominator is place 1, and this over the
     /// denominator once more place 2.
     AreaScale {
         place: u32,
     },
 }
 
-/// Why a computation over a surface gives no answer.
+impl Site {
+    /// The site of the scaling of a side, by its place.
+    pub fn scaling(corner: Corner, place: u32) -> Site
+        ensures { result ≡ Site.Scale corner.polygon corner.side place }
+    {
+        let (polygon, side) = numbers(corner);
+        Site::Scale {
+            polygon,
+            side,
+            place,
+        }
+    }
+
+    /// The site of the sum of a corner's position and its side, by its place.
+    pub fn closing(corner: Corner, place: u32) -> Site
+        ensures { result ≡ Site.Close corner.polygon corner.side place }
+    {
+        let (polygon, side) = numbers(corner);
+        Site::Close {
+            polygon,
+            side,
+            place,
+        }
+    }
+
+    /// The site of the cross product at a corner, by its place.
+    pub fn convexity(corner: Corner, place: u32) -> Site
+        ensures { result ≡ Site.Corner corner.polygon corner.side place }
+    {
+        let (polygon, side) = numbers(corner);
+        Site::Corner {
+            polygon,
+            side,
+            place,
+        }
+    }
+
+    /// The site of the triangle of corner 0, a corner and the next one, by its place.
+    pub fn triangle(corner: Corner, place: u32) -> Site
+        ensures { result ≡ Site.Area corner.polygon corner.side place }
+    {
+        let (polygon, corner) = numbers(corner);
+        Site::Area {
+            polygon,
+            corner,
+            place,
+        }
+    }
+}
+
+// The two numbers of a corner, as a site holds them.
+fn numbers(corner: Corner) -> (u32, u32)
+    ensures polygon { result.0 ≡ corner.polygon }
+    ensures side { result.1 ≡ corner.side }
+{
+    (u32::from(corner.polygon), u32::from(corner.side))
+}
+
+/// Why a computation over a surface has no result.
 #[derive(Clone, Copy, Debug, PartialEq, Eq, Hash)]
 pub enum Stop {
     /// The budget of so many steps is spent.
     Undecided(u32),
-    /// An exact result leaves the width.
+    /// A number overflows.
     Overflow(Site),
     /// Memory ran out.
     NoMemory,

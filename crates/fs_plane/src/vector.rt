@@ -5,7 +5,8 @@ use fs_quadratic::{Elem, Field};
 use std::cmp::Ordering;
 use std::marker::Model;
 
-/// A vector of the plane. On a surface its parts are the true ones times the surface's denominator.
+/// A vector of the plane. On a surface its coordinates are scaled: multiplied by the surface's
+/// denominator. Contracts see it as a vector of fs_ring over the numbers p + q·√d.
 #[derive(Clone, Copy, Debug, PartialEq, Eq, Hash)]
 pub struct V2 {
     pub x: Elem,
@@ -29,7 +30,7 @@ impl V2 {
         y: Elem::ZERO,
     };
 
-    /// The opposite vector. It always fits.
+    /// The opposite vector. It never overflows.
     pub fn neg(self) -> V2
         ensures { result ≡ vector_neg self }
     {

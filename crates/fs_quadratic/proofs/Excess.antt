@@ -9,7 +9,7 @@ use Rattle.fs_ring.proofs.Signs as signs
 use Rattle.fs_ring.proofs.Integers.{integer_ring}
 use Rattle.fs_ring.proofs.Solver.{expressions as E, numeral, ◌⊕◌, ◌⊖◌, ◌⊗◌, ◌≐◌, ◌from◌, identity, derived}
 use Rattle.fs_quadratic.specs.Radicand.{IsNoSquare}
-use Rattle.fs_quadratic.specs.Quotient.{excess}
+use Rattle.fs_quadratic.specs.CompleteQuotient.{excess}
 use Rattle.fs_quadratic.specs.Ring.{Quadratic, add, mul, neg, IsPositive, both, by_p, by_q, sign}
 use Rattle.fs_quadratic.proofs.Laws.{quadratic_eq, quadratic_ring, quadratic_order}
 use Rattle.fs_quadratic.proofs.Signs.{sign-positive, sign-negative, sign-zero, sign-neg}
@@ -60,7 +60,7 @@ step_product d k m next a below n b r e f g =
     (step_p (pos d) (pos k) (pos m) (pos next) (pos a) (pos below) (pos n) (pos b) (pos r) (ap pos e) (ap pos f) (ap pos g))
     (step_q (pos d) (pos k) (pos m) (pos next) (pos a) (pos below) (pos n) (pos b) (pos r) (ap pos e) (ap pos g))
 
--- what stands above a whole part, as a multiple of what stands there for 1/1, and the rest t
+-- the excess over a whole part, as a multiple of the excess of 1/1, and the rest t
 greater_p : (d m a n b t s : ℤ) → n *ℤ a ≡ ((s +ℤ m) *ℤ b) +ℤ t → (n *ℤ a) -ℤ (m *ℤ b) ≡ ((b *ℤ s) +ℤ (d *ℤ (pos 0 *ℤ neg_ℤ (pos 1)))) +ℤ t
 greater_p d m a n b t s e =
     derived integer_ring (d ∷ m ∷ a ∷ n ∷ b ∷ t ∷ s ∷ [])

@@ -12,7 +12,7 @@ use Rattle.fs_ring.proofs.Integers.{integer_ring, integer_order, less-is, non_ne
 use Rattle.fs_ring.proofs.Solver.{expressions as E, numeral}
 use Rattle.fs_ring.proofs.PlaneSolver.{vector_identity, ◌≐ᵥ◌}
 use Rattle.fs_quadratic.specs.Radicand.{IsRadicand, IsNoSquare}
-use Rattle.fs_quadratic.specs.Ring.{Quadratic, zero as nil, rational_part, root_part, mul, quadratic, IsPositive, both, by_p, by_q}
+use Rattle.fs_quadratic.specs.Ring.{Quadratic, zero as nil, rational_part, r_part, mul, quadratic, IsPositive, both, by_p, by_q}
 use Rattle.fs_quadratic.proofs.NormForm as form
 use Rattle.fs_quadratic.proofs.NormForm.{norm_form, IsAbove, p_leads, q_leads}
 use Rattle.fs_quadratic.proofs.SquareRoot.{irrational, radicand_no_square}
@@ -21,7 +21,7 @@ pub quadratic_eq : {x y : Quadratic} → x.p ≡ y.p → x.q ≡ y.q → x ≡ y
 quadratic_eq e f = λ i. record { p = e i; q = f i }
 
 -- the product by its parts
-pub mul-is : (d : ℕ) (x y : Quadratic) → mul d x y ≡ record { p = rational_part d x y; q = root_part x y }
+pub mul-is : (d : ℕ) (x y : Quadratic) → mul d x y ≡ record { p = rational_part d x y; q = r_part x y }
 unfolding mul
 mul-is d x y = refl
 

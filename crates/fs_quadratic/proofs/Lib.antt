@@ -5,7 +5,7 @@ pub mod Signs
 pub mod Parts
 pub mod Bits
 pub mod Small
-pub mod Quotients
+pub mod CompleteQuotients
 pub mod Excess
 pub mod RootOrder
 pub mod Comparison

@@ -1,4 +1,4 @@
--- A fraction compares with a complete quotient as their whole parts do; where these are equal, one step of Euclid's goes on.
+-- A fraction compares with a complete quotient as their whole parts do; where these are equal, one step of Euclid's algorithm decides as the rests do.
 use Rattle.std.proofs.Common.{◌≡◌, ◌≢◌, ℕ, suc, ◌+◌, ◌-◌, ◌*◌, ◌/◌, ◌%◌, ◌<◌, ◌≤◌, refl, sym, ap, ◌∙◌, arith}
 use Rattle.std.proofs.Math.Nat.{lt-mul-div-succ, div-mul-le_self, mul-le-mul, mod-add-div'}
 use Rattle.std.specs.Ordering.{nat_cmp, ordering_reverse, MatchOrdering}
@@ -6,9 +6,9 @@ use Rattle.std.specs.declared.cmp.Ordering.{Ordering}
 use Rattle.std.specs.declared.cmp.Ordering.TheVariants.{Less, Equal, Greater}
 use Rattle.std.proofs.lemmas.Cmp.{ranked}
 use Rattle.fs_quadratic.specs.Radicand.{IsNoSquare}
-use Rattle.fs_quadratic.specs.Quotient.{IsCompleteQuotient, whole_part, excess}
+use Rattle.fs_quadratic.specs.CompleteQuotient.{IsCompleteQuotient, whole_part, excess}
 use Rattle.fs_quadratic.specs.Ring.{sign}
-use Rattle.fs_quadratic.proofs.Quotients as quotients
+use Rattle.fs_quadratic.proofs.CompleteQuotients as quotients
 use Rattle.fs_quadratic.proofs.Excess.{sign-excess_less, sign-excess_greater, sign-step}
 
 -- the number that is left where a is at most b

@@ -14,7 +14,7 @@ use Rattle.fs_quadratic.specs.Radicand.{IsNoSquare}
 use Rattle.fs_quadratic.specs.Ring.{Quadratic, zero, neg, sub, IsPositive, both, by_p, by_q, IsLess, sign_by_parts, sign, compare}
 use Rattle.fs_quadratic.proofs.Laws.{quadratic_ring, quadratic_order}
 
--- how a whole number stands to another
+-- how a whole number compares with another
 abbrev Stands : Ordering → ℤ → ℤ → Type 0
 Stands r y z = MatchOrdering r (y <ℤ z) (y ≡ z) (z <ℤ y)
 
@@ -90,7 +90,7 @@ pub compare-is : (d : ℕ) (x y : Quadratic) → compare d x y ≡ sign d (sub x
 unfolding compare
 compare-is d x y = refl
 
--- ---- where d isn't a square, the sign tells where the number stands
+-- ---- where d isn't a square, the sign says how the number compares with 0
 
 module _ {d : ℕ} (no_square : IsNoSquare d) where
   pub sign_ranks : (x : Quadratic) → MatchOrdering (sign d x) (IsPositive d (neg x)) (x ≡ zero) (IsPositive d x)

@@ -4,8 +4,8 @@ use Rattle.std.proofs.lemmas.Int.{ints, unsigned_abs-mul}
 use Rattle.std.proofs.Math.Nat.{mul-le-mul}
 use Rattle.std.specs.Prelude.{unsigned_abs}
 use Rattle.fs_quadratic.specs.declared.radicand.Field.{Field}
-use Rattle.fs_quadratic.specs.Ring.{Quadratic, rational_part, root_part, add, sub, mul}
-use Rattle.fs_quadratic.specs.Width.{InWidth, Fits, RationalPartFits, RootPartFits, MulFits, IsSmall}
+use Rattle.fs_quadratic.specs.Ring.{Quadratic, rational_part, r_part, add, sub, mul}
+use Rattle.fs_quadratic.specs.Width.{InWidth, Fits, RationalPartFits, RPartFits, MulFits, IsSmall}
 use Rattle.fs_quadratic.proofs.Bits.{within_of_abs}
 
 abs_add : (y z : ℤ) → unsigned_abs (y +ℤ z) ≤ unsigned_abs y + unsigned_abs z
@@ -36,7 +36,7 @@ multiple_small d z h k = abs_mul (pos d) z 999 greatest h k
 sum_small : (y z : ℤ) (m n : ℕ) → unsigned_abs y ≤ m → unsigned_abs z ≤ n → unsigned_abs (y +ℤ z) ≤ m + n
 sum_small y z m n h k = let s = abs_add y z in omega arith
 
--- no number of the product of two small numbers leaves the width
+-- no number of the product of two small numbers overflows
 pub small_fits : (d : ℕ) (x y : Quadratic) → d ≤ 999 → IsSmall x → IsSmall y → MulFits d x y
 unfolding MulFits
 small_fits d x y h s t =
@@ -53,12 +53,12 @@ small_fits d x y h s t =
       (
         within (x.p *ℤ y.q) greatest pq (omega arith),
         within (x.q *ℤ y.p) greatest qp (omega arith),
-        within (root_part x y) (greatest + greatest) (sum_small (x.p *ℤ y.q) (x.q *ℤ y.p) greatest greatest pq qp) (omega arith),
+        within (r_part x y) (greatest + greatest) (sum_small (x.p *ℤ y.q) (x.q *ℤ y.p) greatest greatest pq qp) (omega arith),
       ),
     )
 
 -- the same, for a field, by its parts
-pub field_fits : (field : Field) (x y : Quadratic) → IsSmall x → IsSmall y → RationalPartFits field.d x y × RootPartFits x y
+pub field_fits : (field : Field) (x y : Quadratic) → IsSmall x → IsSmall y → RationalPartFits field.d x y × RPartFits x y
 unfolding MulFits
 field_fits field x y s t = small_fits field.d x y field.radicand.greatest s t
 

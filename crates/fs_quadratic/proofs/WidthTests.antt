@@ -3,8 +3,8 @@ use Rattle.std.proofs.Common.{◌^◌, ℕ, Bool, ℤ, pos, ◌*ℤ◌, ◌&&◌
 use Rattle.std.proofs.lemmas.Bool.Decides.{Decides-ltb, Decides-like, Decides-and}
 use Rattle.std.specs.Prelude.{unsigned_abs}
 use Rattle.std.specs.Bool.{Decides}
-use Rattle.fs_quadratic.specs.Ring.{Quadratic, rational_part, root_part}
-use Rattle.fs_quadratic.specs.Width.{InWidth, Fits, MultipleFits, RationalPartFits, RootPartFits, MulFits, is_in_width, is_fitting, is_fitting_multiple, is_fitting_rational_part, is_fitting_root_part, is_fitting_mul}
+use Rattle.fs_quadratic.specs.Ring.{Quadratic, rational_part, r_part}
+use Rattle.fs_quadratic.specs.Width.{InWidth, Fits, MultipleFits, RationalPartFits, RPartFits, MulFits, is_in_width, is_fitting, is_fitting_multiple, is_fitting_rational_part, is_fitting_r_part, is_fitting_mul}
 use Rattle.fs_quadratic.proofs.Bits.{within_of_abs, abs_of_within}
 
 pub Decides-is_in_width : (z : ℤ) → Decides (is_in_width z) (InWidth z)
@@ -26,12 +26,12 @@ Decides-rational_part d x y =
     Decides-three (is_in_width (x.p *ℤ y.p)) (is_fitting_multiple d x.q y.q) (is_in_width (rational_part d x y))
     (Decides-is_in_width (x.p *ℤ y.p)) (Decides-multiple d x.q y.q) (Decides-is_in_width (rational_part d x y))
 
-Decides-root_part : (x y : Quadratic) → Decides (is_fitting_root_part x y) (RootPartFits x y)
+Decides-root_part : (x y : Quadratic) → Decides (is_fitting_r_part x y) (RPartFits x y)
 Decides-root_part x y =
-    Decides-three (is_in_width (x.p *ℤ y.q)) (is_in_width (x.q *ℤ y.p)) (is_in_width (root_part x y))
-    (Decides-is_in_width (x.p *ℤ y.q)) (Decides-is_in_width (x.q *ℤ y.p)) (Decides-is_in_width (root_part x y))
+    Decides-three (is_in_width (x.p *ℤ y.q)) (is_in_width (x.q *ℤ y.p)) (is_in_width (r_part x y))
+    (Decides-is_in_width (x.p *ℤ y.q)) (Decides-is_in_width (x.q *ℤ y.p)) (Decides-is_in_width (r_part x y))
 
 pub Decides-is_fitting_mul : (d : ℕ) (x y : Quadratic) → Decides (is_fitting_mul d x y) (MulFits d x y)
 unfolding is_fitting_mul MulFits
 Decides-is_fitting_mul d x y =
-    Decides-and (is_fitting_rational_part d x y) (is_fitting_root_part x y) (Decides-rational_part d x y) (Decides-root_part x y)
+    Decides-and (is_fitting_rational_part d x y) (is_fitting_r_part x y) (Decides-rational_part d x y) (Decides-root_part x y)

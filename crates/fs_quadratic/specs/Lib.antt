@@ -1,4 +1,4 @@
 pub mod Ring
 pub mod Width
 pub mod Radicand
-pub mod Quotient
+pub mod CompleteQuotient

@@ -21,7 +21,7 @@ add x y = record { p = x.p +ℤ y.p; q = x.q +ℤ y.q }
 abbrev pub sub : Quadratic → Quadratic → Quadratic
 sub x y = record { p = x.p -ℤ y.p; q = x.q -ℤ y.q }
 
--- the number with both signs turned
+-- the negation
 abbrev pub neg : Quadratic → Quadratic
 neg x = record { p = neg_ℤ x.p; q = neg_ℤ x.q }
 
@@ -32,18 +32,18 @@ one = record { p = pos 1; q = pos 0 }
 abbrev pub rational_part : ℕ → Quadratic → Quadratic → ℤ
 rational_part d x y = x.p *ℤ y.p +ℤ pos d *ℤ (x.q *ℤ y.q)
 
-abbrev pub root_part : Quadratic → Quadratic → ℤ
-root_part x y = x.p *ℤ y.q +ℤ x.q *ℤ y.p
+abbrev pub r_part : Quadratic → Quadratic → ℤ
+r_part x y = x.p *ℤ y.q +ℤ x.q *ℤ y.p
 
 -- the product
 unfoldable pub mul : ℕ → Quadratic → Quadratic → Quadratic
-mul d x y = record { p = rational_part d x y; q = root_part x y }
+mul d x y = record { p = rational_part d x y; q = r_part x y }
 
 -- these numbers as a ring
 abbrev pub quadratic : ℕ → Operations Quadratic
 quadratic d = record { add = add; mul = mul d; neg = neg; zero = zero; one = one }
 
--- p + q·√d is above 0: both parts are at least 0, and not both are 0; or the part above 0 has the larger square, that of q times d
+-- p + q·√d is above 0: both parts are at least 0, and not both are 0; or one part is above 0, the other below, and the former has the larger square, d being a factor of that of q·√d
 pub data IsPositive (d : ℕ) (x : Quadratic) : Type 0 where
   both : pos 0 ≤ℤ x.p → pos 0 ≤ℤ x.q → ¬ ((x.p ≡ pos 0) × (x.q ≡ pos 0)) → IsPositive d x
   by_p : pos 0 <ℤ x.p → x.q <ℤ pos 0 → (pos d *ℤ (x.q *ℤ x.q)) <ℤ (x.p *ℤ x.p) → IsPositive d x

@@ -1,9 +1,9 @@
-ghost use Rattle.std.specs.Prelude.{◌≡◌, ◌+ℤ◌, ◌-ℤ◌, ◌↔◌, IfErr, IsTrue};
-ghost use Rattle.std.specs.Option.{SomeIff};
+ghost use Rattle.std.specs.Prelude.{◌≡◌, ◌↔◌, IfErr, IsTrue};
 ghost use Rattle.std.specs.Result.{OkIff};
 ghost use Rattle.fs_quadratic.specs.Ring.{Quadratic, add, sub, neg};
 ghost use Rattle.fs_quadratic.specs.Width.{InWidth, Fits, IsSmall};
 
+use crate::width::{checked_difference, checked_sum};
 use std::marker::Model;
 
 /// A number p + q·√d with whole parts p and q, each from -(2^127 - 1) to 2^127 - 1.
@@ -29,7 +29,8 @@ impl Model for Elem {
     ghost inverse = { λ x. record { p = x.p; q = x.q } };
 }
 
-/// The operation whose exact result, or a number on the way to it, leaves the width.
+/// The operation that overflows: its exact result, or a number of its computation, isn't within
+/// ±(2^127 - 1).
 #[derive(Clone, Copy, Debug, PartialEq, Eq, Hash)]
 pub enum Op {
     Add,
@@ -53,7 +54,7 @@ impl Elem {
         Elem { p, q }
     }
 
-    /// The part p, without √d.
+    /// The rational part.
     pub fn p(self) -> i128
         ensures value { result ≡ self.p }
         ensures within { InWidth self.p }
@@ -61,7 +62,7 @@ impl Elem {
         self.p
     }
 
-    /// The part q, which stands before √d.
+    /// The r part, the factor of √d.
     pub fn q(self) -> i128
         ensures value { result ≡ self.q }
         ensures within { InWidth self.q }
@@ -76,7 +77,7 @@ impl Elem {
         self.p.unsigned_abs() < SMALL && self.q.unsigned_abs() < SMALL
     }
 
-    /// The exact sum, or `Op::Add` exactly where one of its parts leaves the width.
+    /// The exact sum, or `Op::Add` exactly where one of its parts overflows.
     pub fn add(self, y: Elem) -> Result<Elem, Op>
         ensures sum { OkIff result (Fits (add self y)) (add self y) }
         ensures refused { IfErr result (λ e. e ≡ Op.Add) }
@@ -87,7 +88,7 @@ impl Elem {
         }
     }
 
-    /// The exact difference, or `Op::Sub` exactly where one of its parts leaves the width.
+    /// The exact difference, or `Op::Sub` exactly where one of its parts overflows.
     pub fn sub(self, y: Elem) -> Result<Elem, Op>
         ensures difference { OkIff result (Fits (sub self y)) (sub self y) }
         ensures refused { IfErr result (λ e. e ≡ Op.Sub) }
@@ -101,7 +102,7 @@ impl Elem {
         }
     }
 
-    /// The sum of two numbers that is known to fit, without checks.
+    /// The sum, without checks, where it is known to fit.
     pub fn add_fitting(self, y: Elem) -> Elem
         requires { Fits (add self y) }
         ensures { result ≡ add self y }
@@ -109,7 +110,7 @@ impl Elem {
         Elem::new(self.p() + y.p(), self.q() + y.q())
     }
 
-    /// The difference of two numbers that is known to fit, without checks.
+    /// The difference, without checks, where it is known to fit.
     pub fn sub_fitting(self, y: Elem) -> Elem
         requires { Fits (sub self y) }
         ensures { result ≡ sub self y }
@@ -117,7 +118,7 @@ impl Elem {
         Elem::new(self.p() - y.p(), self.q() - y.q())
     }
 
-    /// The number with both signs turned. It always fits.
+    /// The negation. It never overflows.
     pub fn neg(self) -> Elem
         ensures { result ≡ neg self }
     {
@@ -125,25 +126,5 @@ impl Elem {
             p: -self.p,
             q: -self.q,
         }
-    }
-}
-
-// The sum, where it is within the width.
-pub(crate) fn checked_sum(a: i128, b: i128) -> Option<i128>
-    ensures { SomeIff result (InWidth (a +ℤ b)) (a +ℤ b) }
-{
-    match a.checked_add(b) {
-        Some(sum) if sum != i128::MIN => Some(sum),
-        _ => None,
-    }
-}
-
-// The difference, where it is within the width.
-fn checked_difference(a: i128, b: i128) -> Option<i128>
-    ensures { SomeIff result (InWidth (a -ℤ b)) (a -ℤ b) }
-{
-    match a.checked_sub(b) {
-        Some(difference) if difference != i128::MIN => Some(difference),
-        _ => None,
     }
 }

@@ -1,13 +1,14 @@
 // Exact numbers p + q·√d, with whole p and q of at most 127 bits, for one squarefree d.
 #![tactic(auto)]
 
+mod complete_quotient;
 mod element;
 mod order;
 mod product;
-mod quotient;
 mod radicand;
 #[cfg(test)]
 mod tests;
+pub mod width;
 
 pub use element::{Elem, Op};
 pub use radicand::{BadField, Field};

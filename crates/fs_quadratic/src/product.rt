@@ -1,15 +1,17 @@
-ghost use Rattle.std.specs.Prelude.{◌≡◌, pos, ◌*ℤ◌, IfErr};
+ghost use Rattle.std.specs.Prelude.{◌≡◌, IfErr};
 ghost use Rattle.std.specs.Option.{SomeIff};
 ghost use Rattle.std.specs.Result.{OkIff};
-ghost use Rattle.fs_quadratic.specs.Ring.{mul, rational_part, root_part};
-ghost use Rattle.fs_quadratic.specs.Width.{InWidth, MultipleFits, RationalPartFits, RootPartFits, MulFits, IsSmall};
+ghost use Rattle.fs_quadratic.specs.Ring.{mul, rational_part, r_part};
+ghost use Rattle.fs_quadratic.specs.Width.{RationalPartFits, RPartFits, MulFits, IsSmall};
 
-use crate::element::{Elem, Op, checked_sum};
+use crate::element::{Elem, Op};
 use crate::radicand::Field;
+use crate::width::{checked_multiple, checked_product, checked_sum};
 
 impl Field {
-    /// The exact product, or `Op::Mul` exactly where a part of it leaves the width, or one of
-    /// the products on the way: of a part with a part, and of d with the product of the parts q.
+    /// The exact product, or `Op::Mul` exactly where one of the seven numbers of its computation
+    /// overflows: a product of two parts, d times the product of the r parts, or a part of the result.
+    /// Numbers that are small take no checks.
     #[tactic(auto, unfolding(crate::specs::Width::MulFits, crate::specs::Ring::mul))]
     pub fn mul(self, x: Elem, y: Elem) -> Result<Elem, Op>
         ensures product { OkIff result (MulFits self.d x y) (mul self.d x y) }
@@ -18,7 +20,7 @@ impl Field {
         if x.is_small() && y.is_small() {
             return Ok(self.mul_small(x, y));
         }
-        match (rational_part(self.d, x, y), root_part(x, y)) {
+        match (rational_part(self.d, x, y), r_part(x, y)) {
             (Some(p), Some(q)) => Ok(Elem::new(p, q)),
             _ => Err(Op::Mul),
         }
@@ -37,7 +39,7 @@ impl Field {
     }
 }
 
-// The part p of the product.
+// The rational part of the product.
 fn rational_part(d: u16, x: Elem, y: Elem) -> Option<i128>
     ensures { SomeIff result (RationalPartFits d x y) (rational_part d x y) }
 {
@@ -50,29 +52,12 @@ fn rational_part(d: u16, x: Elem, y: Elem) -> Option<i128>
     }
 }
 
-// The part q of the product.
-fn root_part(x: Elem, y: Elem) -> Option<i128>
-    ensures { SomeIff result (RootPartFits x y) (root_part x y) }
+// The r part of the product.
+fn r_part(x: Elem, y: Elem) -> Option<i128>
+    ensures { SomeIff result (RPartFits x y) (r_part x y) }
 {
     match (checked_product(x.p(), y.q()), checked_product(x.q(), y.p())) {
         (Some(left), Some(right)) => checked_sum(left, right),
-        _ => None,
-    }
-}
-
-// d times the product, where both are within the width.
-fn checked_multiple(d: u16, a: i128, b: i128) -> Option<i128>
-    ensures { SomeIff result (MultipleFits d a b) (pos d *ℤ (a *ℤ b)) }
-{
-    checked_product(i128::from(d), checked_product(a, b)?)
-}
-
-// The product, where it is within the width.
-fn checked_product(a: i128, b: i128) -> Option<i128>
-    ensures { SomeIff result (InWidth (a *ℤ b)) (a *ℤ b) }
-{
-    match a.checked_mul(b) {
-        Some(product) if product != i128::MIN => Some(product),
         _ => None,
     }
 }

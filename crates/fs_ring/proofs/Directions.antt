@@ -132,7 +132,7 @@ module _ {A : Type 0} {R : Operations A} {IsPositive : A → Type 0} (L : IsOrde
     same_way = along_dot c (along_comm h) k.same_way;
   }
 
-  -- ---- how one direction stands to another
+  -- ---- left, right, along, opposite
 
   pub turn : (a b : Vector A) → a ≢ zero_vector R → b ≢ zero_vector R → Turn R IsPositive a b
   turn a b m n = go (L.trichotomy (cross R a b)) (L.trichotomy (dot R a b))
@@ -144,7 +144,7 @@ module _ {A : Type 0} {R : Operations A} {IsPositive : A → Type 0} (L : IsOrde
       go (null e) (negative p) = opposite e p
       go (null e) (null f) = absurd (elim (zero_of_cross_dot-zero a b e f) [ inl z ↦ m z | inr z ↦ n z ])
 
-  -- 'left of' is transitive on one side of a line: w runs along the line, and b stands strictly to the left of w
+  -- 'left of' is transitive on one side of a line: w is along the line, and b is strictly to the left of w
   pub cross_trans : (w a b c : Vector A) → IsNonNegative R IsPositive (cross R w a) → IsPositive (cross R w b) → IsPositive (cross R w c)
       → IsPositive (cross R a b) → IsPositive (cross R b c) → IsPositive (cross R a c)
   cross_trans w a b c wa wb wc ab bc =

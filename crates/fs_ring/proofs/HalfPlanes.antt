@@ -1,4 +1,4 @@
--- Half planes and sectors, and the order of directions through the whole turn, over an ordered ring.
+-- Half planes and sectors, and the counterclockwise order of directions, over an ordered ring.
 use Rattle.std.proofs.Common.{◌≡◌, ◌≢◌, ◌⊎◌, [], ◌∷◌, refl, sym, ap, ◌∙◌, inl, inr}
 use Rattle.fs_ring.specs.Operations.{Operations}
 use Rattle.fs_ring.specs.OrderedRing.{IsOrderedRing, IsNonNegative}
@@ -36,7 +36,7 @@ module _ {A : Type 0} {R : Operations A} {IsPositive : A → Type 0} (L : IsOrde
   half_plane_non_negative (inside p) = signs.non_negative_of_positive L p
   half_plane_non_negative (at_start h) = signs.non_negative_of_zero L h.parallel
 
-  -- what stands in the half plane and left of one of its vectors is off its first ray
+  -- what is in the half plane and left of one of its vectors isn't on its first ray
   pub half_plane_left : {w a b : Vector A} → HalfPlane w a → HalfPlane w b → IsPositive (cross R a b) → IsPositive (cross R w b)
   half_plane_left ha (inside p) ab = p
   half_plane_left {w} {a} {b} ha (at_start h) ab =
@@ -75,7 +75,7 @@ module _ {A : Type 0} {R : Operations A} {IsPositive : A → Type 0} (L : IsOrde
       elim (directions.turn L a b (half_plane-ne-zero ha) (half_plane-ne-zero hb))
       [ left p ↦ inl p | right p ↦ inr (inl p) | along h ↦ inr (inr h) | opposite e n ↦ absurd (half_plane_not_opposite ha hb e n) ]
 
-  -- a vector off zero stands in one of the two half planes of a line
+  -- a vector that isn't zero is in one of the two half planes of a line
   pub half_plane_cases : (w v : Vector A) → w ≢ zero_vector R → v ≢ zero_vector R → HalfPlane w v ⊎ HalfPlane (neg_vector R w) v
   half_plane_cases w v m n =
       elim (directions.turn L w v m n) [
@@ -91,14 +91,14 @@ module _ {A : Type 0} {R : Operations A} {IsPositive : A → Type 0} (L : IsOrde
   half_plane_one {w} {v} (at_start h) (inside q) = signs.negative-ne-zero L (signs.positive_of_eq L (sym (plane.cross-neg_left L.ring w v)) q) h.parallel
   half_plane_one {w} {v} (at_start h) (at_start k) = signs.not_both_signs L h.same_way (signs.positive_of_eq L (sym (plane.dot-neg_left L.ring w v)) k.same_way)
 
-  -- a half plane goes by directions
+  -- a half plane has all vectors of each direction that it has
   pub half_plane_along : {w u v : Vector A} → Along u v → HalfPlane w u → HalfPlane w v
   half_plane_along {w} {u} {v} h (at_start k) = at_start (directions.along_trans L k h)
   half_plane_along {w} {u} {v} h (inside p) = inside (directions.along_cross_right L w h p)
 
   -- ---- sectors
 
-  -- what stands in a sector stands right of its end
+  -- what is in a sector is right of its end
   pub sector_end : {a c v : Vector A} → IsPositive (cross R a c) → Sector a c v → IsPositive (cross R v c)
   sector_end {a} {c} {v} ac (at_start h) = directions.along_cross L c h ac
   sector_end ac (inside p q) = q
@@ -157,7 +157,7 @@ module _ {A : Type 0} {R : Operations A} {IsPositive : A → Type 0} (L : IsOrde
   pub before_asymm : {a b : Vector A} → Before a b → Before b a → ⊥
   before_asymm {a} h k = before_irrefl a (before_trans h k)
 
-  -- of two vectors off zero one comes before the other, or they have one direction
+  -- of two vectors that aren't zero one is before the other, or they have one direction
   pub before_cases : (a b : Vector A) → a ≢ zero_vector R → b ≢ zero_vector R → Before a b ⊎ (Before b a ⊎ Along a b)
   before_cases a b m n = go (half_plane_cases (unit_vector R) a unit-ne-zero m) (half_plane_cases (unit_vector R) b unit-ne-zero n)
     where
@@ -168,7 +168,7 @@ module _ {A : Type 0} {R : Operations A} {IsPositive : A → Type 0} (L : IsOrde
       go (inr h) (inl k) = inr (inl (across k h))
       go (inr h) (inr k) = elim (half_plane_turn h k) [ inl p ↦ inl (lower h k p) | inr s ↦ elim s [ inl p ↦ inr (inl (lower k h p)) | inr z ↦ inr (inr z) ] ]
 
-  -- the order goes by directions
+  -- the order depends on directions alone
   pub before_along : {a b u v : Vector A} → Along a u → Along b v → Before a b → Before u v
   before_along {a} {b} {u} {v} h k (upper ha hb p) = upper (half_plane_along h ha) (half_plane_along k hb) (directions.along_cross_right L u k (directions.along_cross L b h p))
   before_along {a} {b} {u} {v} h k (across ha hb) = across (half_plane_along h ha) (half_plane_along k hb)

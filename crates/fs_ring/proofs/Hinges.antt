@@ -1,4 +1,4 @@
--- Two triangles at an edge: one goes on with the sides a and b, the other with c and g.
+-- The hinge, the two triangles at an edge: a and b are the other two sides of one, c and g those of the other.
 use Rattle.std.proofs.Common.{◌≡◌, [], ◌∷◌, refl, sym, ap, ◌∙◌, subst}
 use Rattle.fs_ring.specs.Operations.{Operations}
 use Rattle.fs_ring.specs.OrderedRing.{IsOrderedRing, positive, null, negative, IsNonNegative}

@@ -30,7 +30,7 @@ module _ {A : Type 0} {R : Operations A} (L : IsCommutativeRing R) where
   pub add_interchange : (w x y z : A) → (w + x) + (y + z) ≡ (w + y) + (x + z)
   add_interchange w x y z = L.add_assoc w x (y + z) ∙ ap (λ v. w + v) (add_left_comm x y z) ∙ sym (L.add_assoc w y (x + z))
 
-  -- a summand that stands on both sides can go
+  -- a summand of both sides can be taken away
   pub add_left_cancel : (x y z : A) → x + y ≡ x + z → y ≡ z
   add_left_cancel x y z h = sym (back y) ∙ ap (λ w. neg x + w) h ∙ back z
     where

@@ -2,7 +2,7 @@
 use Rattle.std.specs.Prelude.{◌≡◌}
 use Rattle.fs_ring.specs.Operations.{Operations}
 
--- sum and product are associative and commutative, with 0, negatives and 1, and the product goes through sums
+-- sum and product are associative and commutative, with 0, negatives and 1, and the product distributes over sums
 pub record IsCommutativeRing {A : Type 0} (R : Operations A) : Type 0 where
   pub add_assoc : (x y z : A) → R.add (R.add x y) z ≡ R.add x (R.add y z)
   pub add_comm : (x y : A) → R.add x y ≡ R.add y x

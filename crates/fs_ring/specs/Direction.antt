@@ -1,4 +1,4 @@
--- Directions of vectors over an ordered ring: how they stand to each other, half planes, sectors, and their order through the whole turn.
+-- Directions of vectors over an ordered ring: which is left of which, half planes, sectors, and their counterclockwise order from (1, 0).
 use Rattle.std.specs.Prelude.{◌≡◌}
 use Rattle.fs_ring.specs.Operations.{Operations}
 use Rattle.fs_ring.specs.Vector.{Vector, unit_vector, neg_vector, cross, dot}
@@ -9,19 +9,19 @@ module _ {A : Type 0} (R : Operations A) (IsPositive : A → Type 0) where
     pub parallel : cross R a b ≡ R.zero
     pub same_way : IsPositive (dot R a b)
 
-  -- how b stands to a: left or right of it, or along it either way
+  -- b is left of a, right of it, or along it either way
   pub data Turn (a b : Vector A) : Type 0 where
     left : IsPositive (cross R a b) → Turn a b
     right : IsPositive (cross R b a) → Turn a b
     along : IsAlong a b → Turn a b
     opposite : cross R a b ≡ R.zero → IsPositive (R.neg (dot R a b)) → Turn a b
 
-  -- v stands in the half plane that begins at w, included, and goes counterclockwise to -w, excluded
+  -- v is in the half plane that begins at w, included, and ends counterclockwise at -w, excluded
   pub data InHalfPlane (w v : Vector A) : Type 0 where
     at_start : IsAlong w v → InHalfPlane w v
     inside : IsPositive (cross R w v) → InHalfPlane w v
 
-  -- v stands in the sector of less than half a turn that begins at a, included, and goes counterclockwise to c, excluded
+  -- v is in the sector of less than half a turn that begins at a, included, and ends counterclockwise at c, excluded
   pub data InSector (a c v : Vector A) : Type 0 where
     at_start : IsAlong a v → InSector a c v
     inside : IsPositive (cross R a v) → IsPositive (cross R v c) → InSector a c v
@@ -33,7 +33,7 @@ module _ {A : Type 0} (R : Operations A) (IsPositive : A → Type 0) where
   abbrev pub IsLower : Vector A → Type 0
   IsLower v = InHalfPlane (neg_vector R (unit_vector R)) v
 
-  -- the direction of a comes before that of b, counterclockwise from (1, 0) through the whole turn
+  -- the direction of a is before that of b, counterclockwise from (1, 0)
   pub data IsBefore (a b : Vector A) : Type 0 where
     upper : IsUpper a → IsUpper b → IsPositive (cross R a b) → IsBefore a b
     across : IsUpper a → IsLower b → IsBefore a b

@@ -31,7 +31,7 @@ module _ {A : Type 0} (R : Operations A) where
   abbrev pub scale : A → Vector A → Vector A
   scale k a = record { x = R.mul k a.x; y = R.mul k a.y }
 
-  -- the cross product: positive where b stands to the left of a
+  -- the cross product: positive where b is to the left of a
   abbrev pub cross : Vector A → Vector A → A
   cross a b = sub R (R.mul a.x b.y) (R.mul a.y b.x)
 

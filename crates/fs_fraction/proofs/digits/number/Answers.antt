@@ -2,8 +2,7 @@ use Rattle.std.proofs.Common.{◌≡◌, take, get_or, ◌∙◌, ap, arith}
 use Rattle.std.proofs.lemmas.Int.Digits.{digits_more, digits_value_more}
 use Rattle.std.specs.Str.Parse.{digits_value}
 use Rattle.std.proofs.lemmas.List.{take_all}
-use Rattle.fs_fraction.proofs.Numerals.{value_below_17}
-use Rattle.fs_lists.proofs.Digits.{digit_at, digit_in_range, digit_value_is, digits_value_below}
+use Rattle.fs_lists.proofs.Digits.{digit_at, digit_in_range, digit_value_is, digits_value_below, prefix_value_below}
 use Rattle.fs_fraction.proofs.digits.number.Goals as goal
 
 pub overflow_sub-byte : goal.overflow_sub-byte
@@ -13,13 +12,13 @@ overflow_sub-byte c =
 
 pub overflow_mul-value : goal.overflow_mul-value
 overflow_mul-value c =
-    let small = value_below_17 c.args.digits.now c.loop-byte.byte-index c.loop-byte.invariant.digits (omega arith) c.requires.few in
+    let small = prefix_value_below c.args.digits.now c.loop-byte.byte-index 17 c.loop-byte.invariant.digits (omega arith) c.requires.few in
     let number = c.loop-byte.invariant.number in
     omega arith
 
 pub overflow_add-value : goal.overflow_add-value
 overflow_add-value c =
-    let small = value_below_17 c.args.digits.now c.loop-byte.byte-index c.loop-byte.invariant.digits (omega arith) c.requires.few in
+    let small = prefix_value_below c.args.digits.now c.loop-byte.byte-index 17 c.loop-byte.invariant.digits (omega arith) c.requires.few in
     let number = c.loop-byte.invariant.number in
     let range = digit_in_range (get_or c.args.digits.now c.loop-byte.byte-index 0) (digit_at c.args.digits.now c.loop-byte.byte-index c.requires.digits (omega arith)) in
     let from = c.from.ensures in

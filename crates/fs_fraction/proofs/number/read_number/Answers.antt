@@ -1,13 +1,13 @@
 use Rattle.std.proofs.Common.{Err, refl}
 use Rattle.fs_fraction.specs.declared.number.NumberFault.TheVariants.{Wide}
-use Rattle.fs_fraction.specs.Number.{Reads, too_wide}
+use Rattle.fs_fraction.specs.Number.{Reads, wide_number}
 use Rattle.fs_fraction.specs.Parts.{written_of}
 use Rattle.fs_fraction.proofs.Readings.{read_narrow, same_read}
 use Rattle.fs_fraction.proofs.number.read_number.Goals as goal
 
 pub returns-then-not-is_narrow : goal.returns-then-not-is_narrow
 returns-then-not-is_narrow c =
-    let wide : Reads c.args.text.now (Err Wide) = too_wide (written_of c.in-Some.written) c.in-Some.ensures (λ narrow. cc (c.if-not-is_narrow.ensures.1 narrow)) refl in
+    let wide : Reads c.args.text.now (Err Wide) = wide_number (written_of c.in-Some.written) c.in-Some.ensures (λ narrow. cc (c.if-not-is_narrow.ensures.1 narrow)) refl in
     record { read = wide; only = λ other reads. same_read c.args.text.now (Err Wide) other wide reads }
 
 pub returns : goal.returns

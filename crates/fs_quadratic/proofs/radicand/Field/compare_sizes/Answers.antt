@@ -1,7 +1,7 @@
 use Rattle.std.proofs.Common.{ap, ◌∙◌, ◌-ℤ◌}
 use Rattle.std.specs.Prelude.{unsigned_abs}
 use Rattle.fs_quadratic.specs.Ring.{sign}
-use Rattle.fs_quadratic.specs.Quotient.{excess}
+use Rattle.fs_quadratic.specs.CompleteQuotient.{excess}
 use Rattle.fs_quadratic.proofs.Excess.{excess-first}
 use Rattle.fs_quadratic.proofs.Comparison.{abs_sub-bits}
 use Rattle.fs_quadratic.proofs.radicand.Field.compare_sizes.Goals as goal

@@ -1,5 +1,5 @@
 ghost use Rattle.std.specs.Prelude.{◌≡◌, ◌+◌, ◌*◌, ◌-◌, ◌/◌, ◌<◌, pos, neg_ℤ};
-ghost use Rattle.fs_quadratic.specs.Quotient.{IsCompleteQuotient, whole_part, excess};
+ghost use Rattle.fs_quadratic.specs.CompleteQuotient.{IsCompleteQuotient, whole_part, excess};
 ghost use Rattle.fs_quadratic.specs.Ring.{sign};
 
 use crate::radicand::Field;

@@ -1,7 +1,7 @@
 use Rattle.std.proofs.Common.{◌≡◌, ℕ, List, ◌∷◌, ◌∙◌, ap, subst, arith}
 use Rattle.fs_fraction.specs.Parts.{BeginsNumeral}
 use Rattle.fs_fraction.proofs.Parts.{no_over, no_under}
-use Rattle.fs_fraction.proofs.written.split_quotient.Goals as goal
+use Rattle.fs_fraction.proofs.written.split_ratio.Goals as goal
 
 pub returns-in_err-over : goal.returns-in_err-over
 returns-in_err-over c = rw c.from_residual.ensures (no_over c.args.text.now c.in_err-over.ensures)

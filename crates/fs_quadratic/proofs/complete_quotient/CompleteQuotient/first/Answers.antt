@@ -1,5 +1,5 @@
-use Rattle.fs_quadratic.proofs.Quotients.{first_quotient}
-use Rattle.fs_quadratic.proofs.quotient.CompleteQuotient.first.Goals as goal
+use Rattle.fs_quadratic.proofs.CompleteQuotients.{first_quotient}
+use Rattle.fs_quadratic.proofs.complete_quotient.CompleteQuotient.first.Goals as goal
 
 pub invariant_of-result : goal.invariant_of-result
 invariant_of-result c =

@@ -1,6 +1,6 @@
 use Rattle.std.proofs.Common.{arith}
-use Rattle.fs_quadratic.proofs.Quotients as quotients
-use Rattle.fs_quadratic.proofs.quotient.CompleteQuotient.next.Goals as goal
+use Rattle.fs_quadratic.proofs.CompleteQuotients as quotients
+use Rattle.fs_quadratic.proofs.complete_quotient.CompleteQuotient.next.Goals as goal
 
 pub overflow_sub-m : goal.overflow_sub-m
 overflow_sub-m c = rw c.whole_part.ensures (quotients.m_at_most c.args.self.complete)

@@ -3,7 +3,7 @@ use Rattle.std.proofs.Common.{◌≡◌, ℕ, zero, suc, ◌+◌, ◌-◌, ◌*�
 use Rattle.std.proofs.Math.Nat.{mul-sub, mul-div_cancel_left, div-mul-le_self, lt-mul-div-succ, mul-le-mul, mul_comm}
 use native.Mathlib.Decide.{dec_lt}
 use Rattle.fs_quadratic.specs.Radicand.{IsRadicand}
-use Rattle.fs_quadratic.specs.Quotient.{IsCompleteQuotient, whole_part}
+use Rattle.fs_quadratic.specs.CompleteQuotient.{IsCompleteQuotient, whole_part}
 use Rattle.fs_quadratic.proofs.SquareRoot.{radicand_no_square}
 
 -- with k·a = m + next, a divides d - next² as it divides d - m²

@@ -1,12 +1,12 @@
 use Rattle.std.proofs.Common.{◌≡◌, ◌-◌, ◌*◌, ◌/◌, ◌%◌, sym, ap, ◌∙◌, arith}
 use Rattle.std.specs.Ordering.{nat_cmp}
 use Rattle.fs_quadratic.specs.Ring.{sign}
-use Rattle.fs_quadratic.specs.Quotient.{excess}
+use Rattle.fs_quadratic.specs.CompleteQuotient.{excess}
 use Rattle.fs_quadratic.proofs.SquareRoot.{radicand_no_square}
-use Rattle.fs_quadratic.proofs.Quotients.{next_a}
+use Rattle.fs_quadratic.proofs.CompleteQuotients.{next_a}
 use Rattle.fs_quadratic.proofs.Excess.{sign-excess_zero}
 use Rattle.fs_quadratic.proofs.RootOrder.{by_whole_parts, by_next}
-use Rattle.fs_quadratic.proofs.quotient.CompleteQuotient.+compare_fraction.Goals as goal
+use Rattle.fs_quadratic.proofs.complete_quotient.CompleteQuotient.+compare_fraction.Goals as goal
 
 pub returns-then-b-eq0 : goal.returns-then-b-eq0
 returns-then-b-eq0 t c =

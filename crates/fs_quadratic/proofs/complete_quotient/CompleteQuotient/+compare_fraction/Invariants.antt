@@ -1,4 +1,4 @@
-use Rattle.fs_quadratic.proofs.quotient.CompleteQuotient.+compare_fraction.Given as goal
+use Rattle.fs_quadratic.proofs.complete_quotient.CompleteQuotient.+compare_fraction.Given as goal
 
 -- the denominator
 abbrev pub decreases-compare_fraction : goal.decreases-compare_fraction
