@@ -73,11 +73,6 @@ pub inverse_den_positive : {d : ℕ} → IsNoSquare d → (x : Fraction) → x.n
 inverse_den_positive {d} no_square x other =
     mul-pos (quotient_positive (inner x) (content x.num) ((gcd-is x.den (content x.num)).1) (content_positive x.num other)) (norm_positive no_square x.num other)
 
--- a result under a condition, where one more condition holds
-pub ok_and : {T E : Type 0} (r : Result T E) (P Q : Type 0) (v : T) → P → OkIff r Q v → OkIff r (P × Q) v
-ok_and (Ok x) P Q v p h = ((p, h.0), h.1)
-ok_and (Err e) P Q v p h = λ both. h both.1
-
 -- a number within the width is the number of its bits
 pub through_bits : (z : ℤ) → InWidth z → to_z w128 (of_z w128 z) ≡ z
 through_bits z h = to_z-of_z w128 z (fits_signed_from_abs w128 z (size_within z h))

@@ -6,3 +6,4 @@ pub mod Numerals
 pub mod Parts
 pub mod Readings
 pub mod Spellings
+pub mod ExactResults

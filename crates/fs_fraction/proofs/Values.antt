@@ -171,16 +171,23 @@ product-value d x y =
 
 -- ---- signs and order
 
-sign-scale : {d : ℕ} → IsNoSquare d → (k : ℕ) (x : Quadratic) → 0 < k → sign d (scale k x) ≡ sign d x
+-- k as a number
+abbrev pub whole : ℕ → Quadratic
+whole k = record { p = pos k; q = pos 0 }
+
+-- a multiple is a product
+pub whole-times : (d k : ℕ) (x : Quadratic) → mul d (whole k) x ≡ scale k x
 unfolding mul
-sign-scale {d} no_square k x up =
-    let whole : Quadratic = record { p = pos k; q = pos 0 } in
-    let positive : IsPositive d whole = both (omega (arith, ints)) (omega (arith, ints)) (λ zeros. let none = zeros.0 in absurd (omega (arith, ints))) in
-    let times : mul d whole x ≡ scale k x =
+whole-times d k x =
     quadratic_eq
     (identity integer_ring (pos k ∷ pos d ∷ x.p ∷ x.q ∷ []) (λ k d p q. (k ⊗ p) ⊕ (d ⊗ (numeral 0 ⊗ q)) ≐ k ⊗ p) refl)
-    (identity integer_ring (pos k ∷ x.p ∷ x.q ∷ []) (λ k p q. (k ⊗ q) ⊕ (numeral 0 ⊗ p) ≐ k ⊗ q) refl) in
-    ap (sign d) (sym times) ∙ sign-positive_mul no_square whole x positive
+    (identity integer_ring (pos k ∷ x.p ∷ x.q ∷ []) (λ k p q. (k ⊗ q) ⊕ (numeral 0 ⊗ p) ≐ k ⊗ q) refl)
+
+pub whole-positive : (d k : ℕ) → 0 < k → IsPositive d (whole k)
+whole-positive d k up = both (omega (arith, ints)) (omega (arith, ints)) (λ zeros. let none = zeros.0 in absurd (omega (arith, ints)))
+
+sign-scale : {d : ℕ} → IsNoSquare d → (k : ℕ) (x : Quadratic) → 0 < k → sign d (scale k x) ≡ sign d x
+sign-scale {d} no_square k x up = ap (sign d) (sym (whole-times d k x)) ∙ sign-positive_mul no_square (whole k) x (whole-positive d k up)
 
 -- a fraction has the sign of each numerator of its value over a positive denominator
 pub value-sign : {d : ℕ} → IsNoSquare d → (x : Fraction) (num : Quadratic) (den : ℕ) → 0 < x.den → 0 < den → HasValue x num den → sign d x.num ≡ sign d num
@@ -193,7 +200,7 @@ plus-neg z w = omega (arith, ints)
 less : (z m w : ℤ) → z +ℤ (m *ℤ neg_ℤ w) ≡ z -ℤ (m *ℤ w)
 less z m w = ap (λ (v : ℤ). z +ℤ v) (identity integer_ring (m ∷ w ∷ []) (λ m w. m ⊗ negative w ≐ negative (m ⊗ w)) refl) ∙ plus-neg z (m *ℤ w)
 
-crosswise : (m n : ℕ) (x y : Quadratic) → add (scale n x) (scale m (neg y)) ≡ sub (scale n x) (scale m y)
+pub crosswise : (m n : ℕ) (x y : Quadratic) → add (scale n x) (scale m (neg y)) ≡ sub (scale n x) (scale m y)
 crosswise m n x y = quadratic_eq (less (pos n *ℤ x.p) (pos m) y.p) (less (pos n *ℤ x.q) (pos m) y.q)
 
 -- the difference has the sign by which the fractions compare crosswise

@@ -1,6 +1,7 @@
-ghost use Rattle.std.specs.Prelude.{◌≡◌, ◌≢◌};
+ghost use Rattle.std.specs.Prelude.{◌≡◌, ◌≢◌, IfOk};
 ghost use Rattle.std.specs.Result.{OkIff};
 ghost use Rattle.fs_quadratic.specs.Ring.{zero};
+ghost use Rattle.fs_fraction.specs.Fraction.{HasSum, HasDifference, HasProduct, one_fraction};
 ghost use Rattle.fs_fraction.specs.Arithmetic.{negated, sum, SumFits, product, ProductFits, conjugate, with_sign, reciprocal, ReciprocalFits, quotient, QuotientFits};
 
 use crate::divisor::greatest_divisor;
@@ -12,6 +13,14 @@ use fs_quadratic::{Elem, Field};
 /// The exact sum, or `Overflow` exactly where a number of its computation overflows: the least
 /// common multiple of the denominators, a part of a numerator over it, or a part of their sum.
 pub fn add(_field: Field, x: Frac, y: Frac) -> Result<Frac, FracStop>
+    ensures sum { OkIff result (SumFits x y) (sum x y) }
+    ensures value { IfOk result (λ z. HasSum x y z) }
+{
+    checked_sum(x, y)
+}
+
+// The sum by its computation alone.
+fn checked_sum(x: Frac, y: Frac) -> Result<Frac, FracStop>
     ensures { OkIff result (SumFits x y) (sum x y) }
 {
     let m = x.denominator();
@@ -32,7 +41,8 @@ pub fn add(_field: Field, x: Frac, y: Frac) -> Result<Frac, FracStop>
 
 /// The exact difference, or `Overflow` exactly where the sum of x and -y overflows.
 pub fn sub(field: Field, x: Frac, y: Frac) -> Result<Frac, FracStop>
-    ensures { OkIff result (SumFits x (negated y)) (sum x (negated y)) }
+    ensures difference { OkIff result (SumFits x (negated y)) (sum x (negated y)) }
+    ensures value { IfOk result (λ z. HasDifference x y z) }
 {
     add(field, x, y.neg())
 }
@@ -40,6 +50,14 @@ pub fn sub(field: Field, x: Frac, y: Frac) -> Result<Frac, FracStop>
 /// The exact product, or `Overflow` exactly where a number of its computation overflows. Each
 /// numerator is first divided by what it has in common with the other denominator.
 pub fn mul(field: Field, x: Frac, y: Frac) -> Result<Frac, FracStop>
+    ensures product { OkIff result (ProductFits field.d x y) (product field.d x y) }
+    ensures value { IfOk result (λ z. HasProduct field.d x y z) }
+{
+    checked_product(field, x, y)
+}
+
+// The product by its computation alone.
+fn checked_product(field: Field, x: Frac, y: Frac) -> Result<Frac, FracStop>
     ensures { OkIff result (ProductFits field.d x y) (product field.d x y) }
 {
     let m = x.denominator();
@@ -58,6 +76,15 @@ pub fn mul(field: Field, x: Frac, y: Frac) -> Result<Frac, FracStop>
 /// The inverse of x, which isn't 0, or `Overflow` exactly where a number of its computation overflows.
 /// The numerator is first divided by what its parts have in common.
 pub fn inv(field: Field, x: Frac) -> Result<Frac, FracStop>
+    requires { x.num ≢ zero }
+    ensures reciprocal { OkIff result (ReciprocalFits field.d x) (reciprocal field.d x) }
+    ensures value { IfOk result (λ z. HasProduct field.d x z one_fraction) }
+{
+    checked_inverse(field, x)
+}
+
+// The inverse by its computation alone.
+fn checked_inverse(field: Field, x: Frac) -> Result<Frac, FracStop>
     requires { x.num ≢ zero }
     ensures { OkIff result (ReciprocalFits field.d x) (reciprocal field.d x) }
 {
@@ -82,6 +109,15 @@ pub fn inv(field: Field, x: Frac) -> Result<Frac, FracStop>
 /// x times the inverse of y, which isn't 0, or `Overflow` exactly where the inverse or that
 /// product overflows.
 pub fn div(field: Field, x: Frac, y: Frac) -> Result<Frac, FracStop>
+    requires { y.num ≢ zero }
+    ensures quotient { OkIff result (QuotientFits field.d x y) (quotient field.d x y) }
+    ensures value { IfOk result (λ z. HasProduct field.d z y x) }
+{
+    checked_quotient(field, x, y)
+}
+
+// The quotient by its computation alone.
+fn checked_quotient(field: Field, x: Frac, y: Frac) -> Result<Frac, FracStop>
     requires { y.num ≢ zero }
     ensures { OkIff result (QuotientFits field.d x y) (quotient field.d x y) }
 {

@@ -1,5 +1,5 @@
 -- The computed sign and the computed comparison say what the order says.
-use Rattle.std.proofs.Common.{◌≡◌, ℕ, ℤ, pos, neg_ℤ, ◌*ℤ◌, ◌<ℤ◌, ◌≤ℤ◌, [], ◌∷◌, refl, sym, ap, ◌∙◌, subst, arith}
+use Rattle.std.proofs.Common.{◌≡◌, ◌↔◌, ℕ, ℤ, pos, neg_ℤ, ◌*ℤ◌, ◌<ℤ◌, ◌≤ℤ◌, [], ◌∷◌, refl, sym, ap, ◌∙◌, subst, arith}
 use Rattle.std.proofs.lemmas.Int.{ints, by_lt_z}
 use Rattle.std.specs.Ordering.{int_cmp, ordering_reverse, MatchOrdering}
 use Rattle.std.specs.Cmp.{IsTotalOrder, strict, int_ranks, int_cmp_is}
@@ -15,17 +15,17 @@ use Rattle.fs_quadratic.specs.Ring.{Quadratic, zero, neg, sub, IsPositive, both,
 use Rattle.fs_quadratic.proofs.Laws.{quadratic_ring, quadratic_order}
 
 -- how a whole number compares with another
-abbrev Stands : Ordering → ℤ → ℤ → Type 0
-Stands r y z = MatchOrdering r (y <ℤ z) (y ≡ z) (z <ℤ y)
+abbrev ComparesAs : Ordering → ℤ → ℤ → Type 0
+ComparesAs r y z = MatchOrdering r (y <ℤ z) (y ≡ z) (z <ℤ y)
 
-sign_from : (d : ℕ) (x : Quadratic) (a b c : Ordering) → Stands a x.p (pos 0) → Stands b x.q (pos 0)
-    → Stands c (x.p *ℤ x.p) (pos d *ℤ (x.q *ℤ x.q)) → sign d x ≡ sign_by_parts a b c
+sign_from : (d : ℕ) (x : Quadratic) (a b c : Ordering) → ComparesAs a x.p (pos 0) → ComparesAs b x.q (pos 0)
+    → ComparesAs c (x.p *ℤ x.p) (pos d *ℤ (x.q *ℤ x.q)) → sign d x ≡ sign_by_parts a b c
 unfolding sign
 sign_from d x a b c ha hb hc =
     λ i. sign_by_parts (sym (int_cmp_is x.p (pos 0) a ha) i) (sym (int_cmp_is x.q (pos 0) b hb) i) (sym (int_cmp_is (x.p *ℤ x.p) (pos d *ℤ (x.q *ℤ x.q)) c hc) i)
 
 -- where the squares don't matter
-sign_without : (d : ℕ) (x : Quadratic) (a b : Ordering) → Stands a x.p (pos 0) → Stands b x.q (pos 0)
+sign_without : (d : ℕ) (x : Quadratic) (a b : Ordering) → ComparesAs a x.p (pos 0) → ComparesAs b x.q (pos 0)
     → sign d x ≡ sign_by_parts a b (int_cmp (x.p *ℤ x.p) (pos d *ℤ (x.q *ℤ x.q)))
 sign_without d x a b ha hb = sign_from d x a b (int_cmp (x.p *ℤ x.p) (pos d *ℤ (x.q *ℤ x.q))) ha hb (int_ranks (x.p *ℤ x.p) (pos d *ℤ (x.q *ℤ x.q)))
 
@@ -50,7 +50,7 @@ sign-zero d x e = ap (sign d) e
 
 -- ---- the sign of the negative
 
-stands_neg : (z : ℤ) (r : Ordering) → Stands r z (pos 0) → Stands (ordering_reverse r) (neg_ℤ z) (pos 0)
+stands_neg : (z : ℤ) (r : Ordering) → ComparesAs r z (pos 0) → ComparesAs (ordering_reverse r) (neg_ℤ z) (pos 0)
 stands_neg z Less h = omega (arith, ints)
 stands_neg z Equal h = ap neg_ℤ h
 stands_neg z Greater h = omega (arith, ints)
@@ -112,6 +112,21 @@ module _ {d : ℕ} (no_square : IsNoSquare d) where
 
   pub zero_of_sign : (x : Quadratic) → sign d x ≡ Equal → x ≡ zero
   zero_of_sign x e = subst (λ r. MatchOrdering r (IsPositive d (neg x)) (x ≡ zero) (IsPositive d x)) e (sign_ranks x)
+
+  -- a result that is the sign is Greater exactly where the number is above 0, and Less exactly where its negation is
+  pub greater_iff_positive : (r : Ordering) (x : Quadratic) → r ≡ sign d x → r ≡ Greater ↔ IsPositive d x
+  greater_iff_positive r x e = ((λ h. positive_of_sign x (sym e ∙ h)), (λ h. e ∙ sign-positive d x h))
+
+  pub less_iff_negative : (r : Ordering) (x : Quadratic) → r ≡ sign d x → r ≡ Less ↔ IsPositive d (neg x)
+  less_iff_negative r x e = ((λ h. negative_of_sign x (sym e ∙ h)), (λ h. e ∙ sign-negative d x h))
+
+  -- and one that is the comparison says likewise which number is less
+  pub greater_iff_less : (r : Ordering) (x y : Quadratic) → r ≡ compare d x y → r ≡ Greater ↔ IsLess d y x
+  greater_iff_less r x y e = greater_iff_positive r (sub x y) (e ∙ compare-is d x y)
+
+  pub less_iff_less : (r : Ordering) (x y : Quadratic) → r ≡ compare d x y → r ≡ Less ↔ IsLess d x y
+  less_iff_less r x y e =
+      subst (λ z. r ≡ Less ↔ IsPositive d z) (ring.neg-sub (quadratic_ring d) x y) (less_iff_negative r (sub x y) (e ∙ compare-is d x y))
 
   -- the comparison says which of x < y, x = y and y < x holds
   pub compare_ranks : (x y : Quadratic) → MatchOrdering (compare d x y) (IsLess d x y) (x ≡ y) (IsLess d y x)

@@ -1,5 +1,6 @@
-ghost use Rattle.std.specs.Prelude.{◌≡◌, ◌≢◌, ◌-ℤ◌, pos, neg_ℤ, unsigned_abs};
-ghost use Rattle.fs_quadratic.specs.Ring.{sign, compare};
+ghost use Rattle.std.specs.Prelude.{◌≡◌, ◌≢◌, ◌-ℤ◌, ◌↔◌, pos, neg_ℤ, unsigned_abs};
+ghost use Rattle.std.specs.declared.cmp.Ordering.{Ordering};
+ghost use Rattle.fs_quadratic.specs.Ring.{neg, sign, compare, IsPositive, IsLess};
 
 use crate::complete_quotient::CompleteQuotient;
 use crate::element::Elem;
@@ -9,13 +10,24 @@ use std::cmp::Ordering;
 impl Field {
     /// How x compares with 0. It never overflows, even where squares of the parts would.
     pub fn sign(self, x: Elem) -> Ordering
-        ensures { result ≡ sign self.d x }
+        ensures value { result ≡ sign self.d x }
+        ensures greater { result ≡ Ordering.Greater ↔ IsPositive self.d x }
+        ensures less { result ≡ Ordering.Less ↔ IsPositive self.d (neg x) }
     {
         self.cmp(x, Elem::ZERO)
     }
 
     /// How x compares with y. It never overflows, even where the difference would.
     pub fn cmp(self, x: Elem, y: Elem) -> Ordering
+        ensures value { result ≡ compare self.d x y }
+        ensures greater { result ≡ Ordering.Greater ↔ IsLess self.d y x }
+        ensures less { result ≡ Ordering.Less ↔ IsLess self.d x y }
+    {
+        self.compare(x, y)
+    }
+
+    // How x compares with y, by the parts and, where these disagree, by their sizes.
+    fn compare(self, x: Elem, y: Elem) -> Ordering
         ensures { result ≡ compare self.d x y }
     {
         let p = x.p().cmp(&y.p());

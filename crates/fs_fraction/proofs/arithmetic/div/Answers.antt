@@ -1,12 +1,8 @@
-use Rattle.std.proofs.Common.{subst}
-use Rattle.std.specs.Result.{OkIff}
-use Rattle.fs_fraction.specs.Fraction.{Fraction}
-use Rattle.fs_fraction.specs.Arithmetic.{product, ProductFits, ReciprocalFits}
-use Rattle.fs_fraction.proofs.Inverses.{ok_and}
+use Rattle.fs_lists.proofs.Results.{ok_value}
+use Rattle.fs_quadratic.proofs.SquareRoot.{radicand_no_square}
+use Rattle.fs_fraction.proofs.ExactResults.{quotient_exact}
 use Rattle.fs_fraction.proofs.arithmetic.div.Goals as goal
 
-pub returns-in-Ok : goal.returns-in-Ok
-returns-in-Ok c =
-    let d = c.args.field.d in
-    subst (λ (i : Fraction). OkIff c.mul.result (ReciprocalFits d c.args.y × ProductFits d c.args.x i) (product d c.args.x i)) c.in-Ok.ensures.1
-    (ok_and c.mul.result (ReciprocalFits d c.args.y) (ProductFits d c.args.x c.in-Ok.inverse) (product d c.args.x c.in-Ok.inverse) c.in-Ok.ensures.0 c.mul.ensures)
+pub returns-clause-value : goal.returns-clause-value
+returns-clause-value c =
+    ok_value _ _ _ c.checked_quotient.result c.checked_quotient.ensures (quotient_exact (radicand_no_square c.args.field.radicand) c.args.x c.args.y c.requires)
