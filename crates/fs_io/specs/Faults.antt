@@ -1,5 +1,5 @@
 -- Counts of faults: they never fall, and saturate at 2^64 - 1.
-use Rattle.std.specs.Prelude.{◌≡◌, ℕ, ◌+◌, ◌-◌, ◌^◌, ◌<◌, ◌≤◌, ◌⊎◌, min, Result, IsErr}
+use Rattle.std.specs.Prelude.{◌≡◌, ℕ, ◌+◌, ◌-◌, ◌^◌, ◌<◌, ◌≤◌, ◌⊎◌, min, Result, IsOk, IsErr}
 
 -- the last value of a count, where it saturates
 abbrev pub last_count : ℕ
@@ -13,8 +13,9 @@ next_count n = min (n + 1) last_count
 abbrev pub Rose : ℕ → ℕ → Type 0
 Rose before after = (before < after) ⊎ (after ≡ last_count)
 
--- the count didn't fall, and where the call failed it rose
+-- the count of a call: where it failed it is the next one, else it is as before
 pub record Counts {T E : Type 0} (before after : ℕ) (result : Result T E) : Type 0 where
   pub never_falls : before ≤ after
   pub within : after ≤ last_count
-  pub failed : IsErr result → Rose before after
+  pub kept : IsOk result → after ≡ before
+  pub failed : IsErr result → after ≡ next_count before

@@ -29,8 +29,8 @@ const MOST_BYTES: usize = 1_048_576;
 
 /// Reads to the end of a source, at most 1,048,576 bytes.
 ///
-/// `TooLong` once byte 1,048,577 was taken; `ReadFault` only where the source counted a fault in
-/// this call; `NoMemory` at any time. After each of them a prefix of what was left was taken.
+/// `TooLong` once byte 1,048,577 was taken; `ReadFault` exactly where the source counted a fault in
+/// this call; `NoMemory` at any other time. After each of them a prefix of what was left was taken.
 pub fn read_all<S: Source>(alloc: Global, source: &mut S) -> Result<Vec<u8>, ReadStop>
     ensures bytes { IfOk result (λ bytes. Consumes (S.left source.old) (S.left source.new) bytes.items) }
     ensures end { OnOk result (IsAtEnd (S.left source.new)) }
@@ -39,6 +39,7 @@ pub fn read_all<S: Source>(alloc: Global, source: &mut S) -> Result<Vec<u8>, Rea
         × Consumes (S.left source.old) (S.left source.new) taken × (length taken ≡ most_bytes + 1) }
     ensures read_fault { IsErrOf result ReadStop.ReadFault
         → Rose (S.faults source.old) (S.faults source.new) }
+    ensures kept { ¬ IsErrOf result ReadStop.ReadFault → S.faults source.new ≡ S.faults source.old }
     ensures prefix { OnErr result (TakesPrefix (S.left source.old) (S.left source.new)) }
     ensures never_falls { S.faults source.old ≤ S.faults source.new }
 {
@@ -59,11 +60,12 @@ pub fn read_all<S: Source>(alloc: Global, source: &mut S) -> Result<Vec<u8>, Rea
     Err(ReadStop::TooLong)
 }
 
-/// Writes a whole piece. `WriteFault` only where the sink counted a fault in this call; then a
+/// Writes a whole piece. `WriteFault` exactly where the sink counted a fault in this call; then a
 /// prefix of the piece was appended.
 pub fn write_all<S: Sink>(sink: &mut S, piece: &[u8]) -> Result<(), WriteFault>
     ensures bytes { OnOk result (Appends (S.held sink.old) (S.held sink.new) piece.now) }
     ensures write_fault { OnErr result (Rose (S.faults sink.old) (S.faults sink.new)) }
+    ensures kept { OnOk result (S.faults sink.new ≡ S.faults sink.old) }
     ensures prefix { OnErr result (AppendsPrefix (S.held sink.old) (S.held sink.new) piece.now) }
     ensures never_falls { S.faults sink.old ≤ S.faults sink.new }
 {

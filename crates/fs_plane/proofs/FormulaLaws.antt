@@ -1,5 +1,5 @@
 -- Laws of the formulas: they give the values of the plane exactly where all numbers fit, and else the first place where one doesn't.
-use Rattle.std.proofs.Common.{◌≡◌, ℕ, Ok, Err, ◌↔◌}
+use Rattle.std.proofs.Common.{◌≡◌, ℕ, Result, Ok, Err, IfOk, ◌↔◌, sym}
 use Rattle.std.proofs.lemmas.Result.{OkIff-at_ok, Ok-from_Ok_iff}
 use Rattle.std.specs.Result.{OkIff}
 use Rattle.fs_quadratic.specs.Ring.{Quadratic, add, sub, mul}
@@ -30,6 +30,11 @@ module _ (before d : ℕ) (a b : PlaneVector) where
   pub cross_value : (value : Quadratic) → cross_after before d a b ≡ Ok value → value ≡ cross d a b
   cross_value value e = (OkIff-at_ok (cross_after before d a b) (CrossFits d a b) (cross d a b) value cross_ok e).1
 
+  -- a result of the formula has this value, where it has one
+  pub cross_given : (result : Result Quadratic Place) → result ≡ cross_after before d a b → IfOk result (λ value. value ≡ cross d a b)
+  cross_given (Ok value) e = cross_value value (sym e)
+  cross_given (Err stop) e = tt
+
   pub cross_fits : CrossFits d a b → cross_after before d a b ≡ Ok (cross d a b)
   cross_fits h = Ok-from_Ok_iff (cross_after before d a b) (CrossFits d a b) (cross d a b) cross_ok h
 
@@ -49,6 +54,11 @@ module _ (before d : ℕ) (a b : PlaneVector) where
 
   pub dot_value : (value : Quadratic) → dot_after before d a b ≡ Ok value → value ≡ dot d a b
   dot_value value e = (OkIff-at_ok (dot_after before d a b) (DotFits d a b) (dot d a b) value dot_ok e).1
+
+  -- a result of the formula has this value, where it has one
+  pub dot_given : (result : Result Quadratic Place) → result ≡ dot_after before d a b → IfOk result (λ value. value ≡ dot d a b)
+  dot_given (Ok value) e = dot_value value (sym e)
+  dot_given (Err stop) e = tt
 
   pub dot_fits : DotFits d a b → dot_after before d a b ≡ Ok (dot d a b)
   dot_fits h = Ok-from_Ok_iff (dot_after before d a b) (DotFits d a b) (dot d a b) dot_ok h

@@ -1,7 +1,7 @@
 ghost use Rattle.std.specs.Prelude.{◌≡◌, ◌+◌, ◌<◌, ◌^◌, ◌↔◌, IfOk, IsTrue};
 ghost use Rattle.fs_plane.specs.Checked.{checked_product, checked_sum, checked_difference};
 ghost use Rattle.fs_plane.specs.Formulas.{cross_after, dot_after, norm_after, in_sector_after, is_above_zero};
-ghost use Rattle.fs_plane.specs.Vector.{IsSmallVector, IsInSector, cross, dot};
+ghost use Rattle.fs_plane.specs.Vector.{IsSmallVector, IsInSector, cross, dot, norm};
 
 use crate::sites::Place;
 use crate::vector::V2;
@@ -11,7 +11,8 @@ use std::cmp::Ordering;
 /// The cross product a.x·b.y - a.y·b.x, or the first place that overflows: place 1 is
 /// a.x·b.y, place 2 is a.y·b.x, and place 3 their difference.
 pub fn cross(field: Field, a: V2, b: V2) -> Result<Elem, Place>
-    ensures { result ≡ cross_after 0 field.d a b }
+    ensures formula { result ≡ cross_after 0 field.d a b }
+    ensures value { IfOk result (λ value. value ≡ cross field.d a b) }
 {
     cross_after(0, field, a, b)
 }
@@ -42,7 +43,8 @@ fn cross_checked(before: u32, field: Field, a: V2, b: V2) -> Result<Elem, Place>
 /// The dot product a.x·b.x + a.y·b.y, or the first place that overflows: place 1 is
 /// a.x·b.x, place 2 is a.y·b.y, and place 3 their sum.
 pub fn dot(field: Field, a: V2, b: V2) -> Result<Elem, Place>
-    ensures { result ≡ dot_after 0 field.d a b }
+    ensures formula { result ≡ dot_after 0 field.d a b }
+    ensures value { IfOk result (λ value. value ≡ dot field.d a b) }
 {
     dot_after(0, field, a, b)
 }
@@ -73,10 +75,10 @@ fn dot_checked(before: u32, field: Field, a: V2, b: V2) -> Result<Elem, Place>
 /// The squared length, which is the dot product of a with itself, and has its places.
 #[tactic(auto, unfolding(crate::specs::Formulas::norm_after))]
 pub fn norm(field: Field, a: V2) -> Result<Elem, Place>
-    ensures { result ≡ norm_after 0 field.d a }
+    ensures formula { result ≡ norm_after 0 field.d a }
+    ensures value { IfOk result (λ value. value ≡ norm field.d a) }
 {
-    let same = a;
-    dot(field, a, same)
+    dot(field, a, a)
 }
 
 /// Whether v is in the sector of a corner: from the side that begins there, included,
@@ -100,10 +102,7 @@ pub fn in_sector(field: Field, out: V2, incoming: V2, v: V2) -> Result<bool, Pla
 fn test_sector(field: Field, out: V2, incoming: V2, v: V2) -> Result<bool, Place>
     ensures { result ≡ in_sector_after 0 field.d out incoming v }
 {
-    // Both are used again below, and such a vector is copied by a `let` only.
-    let start = out;
-    let same = v;
-    let turn = cross_after(0, field, start, same)?;
+    let turn = cross_after(0, field, out, v)?;
     match field.sign(turn) {
         Ordering::Less => Ok(false),
         Ordering::Equal => is_along(field, out, v),

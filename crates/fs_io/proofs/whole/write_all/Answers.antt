@@ -1,4 +1,4 @@
-use Rattle.std.proofs.Common.{◌+◌, ◌-◌, ◌≤◌, length, take, drop, sym, subst, arith, take-append-drop, length-take, length-drop}
+use Rattle.std.proofs.Common.{◌+◌, ◌-◌, ◌≤◌, length, take, drop, refl, ◌∙◌, sym, subst, arith, take-append-drop, length-take, length-drop}
 use Rattle.std.proofs.KnownBytes.{Appends-kept, Appends-trans}
 use Rattle.std.specs.Io.KnownBytes.{Appends}
 use Rattle.fs_io.proofs.Pieces.{take_and_piece}
@@ -24,6 +24,6 @@ loop-at-preserved g c =
     let within : at + n ≤ length piece = omega (arith, length-take (length piece - at) (drop at piece), length-drop at piece) in
     record {
       appended = subst (Appends (held c.args.sink.now) (held c.put.new.self)) (take_and_piece piece at n (omega arith)) (Appends-trans _ _ _ _ _ c.loop-at.invariant.appended c.in-Ok.ensures.bytes);
-      never_falls = let falls = c.in-Ok.ensures.count.never_falls in omega arith;
+      kept = c.in-Ok.ensures.count.kept refl ∙ c.loop-at.invariant.kept;
       within = within;
     }
