@@ -17,7 +17,13 @@ fail() {
 
 need_rt() {
     command -v rt >/dev/null 2>&1 ||
-        fail "$1 needs the command rt of the toolchain Rattle, which isn't on the path; README.md says more under 'Run it, test it'"
+        fail "$1 needs the command rt of the toolchain Rattle, which isn't on the path; README.md says more"
+}
+
+# Prints what rt said on standard error: without the lines of what is proved, and of a traceback the last line.
+tell() {
+    awk '/^Traceback / { inside = 1; next } inside && /^  / { next } { inside = 0 }
+        !/^(fn|struct|enum|trait|impl) .*: proved$/' >&2
 }
 
 # Names and checksums of the files that the program is built from.
