@@ -1,0 +1,55 @@
+# Functions of the scripts in this folder: a temporary folder, which goes in the end, programs that are
+# built in a copy of the repository, and the least of three times.
+set -euo pipefail
+here=$(cd "$(dirname "$0")" && pwd)
+top=$(dirname "$here")
+work=$(mktemp -d)
+trap 'rm -rf "$work"' EXIT
+
+# Stops where a command is missing.
+need() {
+    local name
+    for name in "$@"; do
+        type -P "$name" >/dev/null || {
+            echo "$(basename "$0"): it needs the command $name" >&2
+            exit 2
+        }
+    done
+}
+
+# Proves and builds NAME.rattle over some crates, in a copy of the repository that has only them and those
+# that they use: build NAME CRATE..; the program is $work/crates/NAME/out/NAME.
+build() {
+    local name=$1 crate part
+    shift
+    for crate in $("$top/tools/below" "$@"); do
+        mkdir -p "$work/crates/$crate"
+        for part in src specs proofs; do
+            [ ! -e "$top/crates/$crate/$part" ] || cp -r "$top/crates/$crate/$part" "$work/crates/$crate/"
+        done
+        grep -E "^$crate( |:|\$)" "$top/crates.txt"
+    done >"$work/crates.txt"
+    echo "$name: $*" >>"$work/crates.txt"
+    mkdir -p "$work/crates/$name/src"
+    cp "$here/$name.rattle" "$work/crates/$name/src/main.rt"
+    (cd "$work/crates/$name" && rt run) >"$work/log" 2>&1 || {
+        cat "$work/log" >&2
+        exit 1
+    }
+}
+
+# Runs a command three times. Of lines 'KEY KEY NANOSECONDS RESULT' prints one for each two keys, with
+# the least time; it stops where the results differ.
+least_of_three() {
+    for _ in 1 2 3; do "$@"; done | awk '
+        {
+            key = $1 " " $2
+            if (!(key in least) || $3 < least[key]) least[key] = $3
+            if ((key in result) && result[key] != $4) {
+                print "the results of " key " differ" >"/dev/stderr"
+                exit 1
+            }
+            result[key] = $4
+        }
+        END { for (key in least) print key, least[key], result[key] }' | sort
+}
