@@ -87,10 +87,6 @@ equal_reduced x y up_x up_y rx ry e =
     (cancel y.den x.num.p y.num.p up_y (p ∙ ap (λ (n : ℕ). pos n *ℤ y.num.p) same))
     (cancel y.den x.num.q y.num.q up_y (q ∙ ap (λ (n : ℕ). pos n *ℤ y.num.q) same))) same
 
--- two fractions in lowest terms with the same value are one
-pub equal_fractions : (x y : Fraction) → IsLowest x.num x.den → IsLowest y.num y.den → HasValue x y.num y.den → x ≡ y
-equal_fractions x y lx ly e = equal_reduced x y lx.positive ly.positive lx.reduced ly.reduced e
-
 across : (x : Fraction) (den : ℕ) (z r rd : ℤ) (f : ℤ) → 0 < den → pos den *ℤ r ≡ rd *ℤ z → pos den *ℤ f ≡ pos x.den *ℤ z → rd *ℤ f ≡ pos x.den *ℤ r
 across x den z r rd f up hr hf =
     cancel den (rd *ℤ f) (pos x.den *ℤ r) up
@@ -169,7 +165,7 @@ product-value d x y =
     let first = subst (λ (k : ℕ). HasValue r (mul d x.num y.num) (k * (u * (y.den / u)))) m both in
     subst (λ (k : ℕ). HasValue r (mul d x.num y.num) (x.den * k)) n first
 
--- ---- signs and order
+-- ---- whole numbers as factors, and differences
 
 -- k as a number
 abbrev pub whole : ℕ → Quadratic
@@ -186,14 +182,6 @@ whole-times d k x =
 pub whole-positive : (d k : ℕ) → 0 < k → IsPositive d (whole k)
 whole-positive d k up = both (omega (arith, ints)) (omega (arith, ints)) (λ zeros. let none = zeros.0 in absurd (omega (arith, ints)))
 
-sign-scale : {d : ℕ} → IsNoSquare d → (k : ℕ) (x : Quadratic) → 0 < k → sign d (scale k x) ≡ sign d x
-sign-scale {d} no_square k x up = ap (sign d) (sym (whole-times d k x)) ∙ sign-positive_mul no_square (whole k) x (whole-positive d k up)
-
--- a fraction has the sign of each numerator of its value over a positive denominator
-pub value-sign : {d : ℕ} → IsNoSquare d → (x : Fraction) (num : Quadratic) (den : ℕ) → 0 < x.den → 0 < den → HasValue x num den → sign d x.num ≡ sign d num
-value-sign {d} no_square x num den above up h =
-    sym (sign-scale no_square den x.num up) ∙ (ap (sign d) h ∙ sign-scale no_square x.den num above)
-
 plus-neg : (z w : ℤ) → z +ℤ neg_ℤ w ≡ z -ℤ w
 plus-neg z w = omega (arith, ints)
 
@@ -202,13 +190,6 @@ less z m w = ap (λ (v : ℤ). z +ℤ v) (identity integer_ring (m ∷ w ∷ [])
 
 pub crosswise : (m n : ℕ) (x y : Quadratic) → add (scale n x) (scale m (neg y)) ≡ sub (scale n x) (scale m y)
 crosswise m n x y = quadratic_eq (less (pos n *ℤ x.p) (pos m) y.p) (less (pos n *ℤ x.q) (pos m) y.q)
-
--- the difference has the sign by which the fractions compare crosswise
-pub difference-sign : {d : ℕ} → IsNoSquare d → (x y : Fraction) → IsLowest x.num x.den → IsLowest y.num y.den → sign d (sum x (negated y)).num ≡ compare d (scale y.den x.num) (scale x.den y.num)
-difference-sign {d} no_square x y lx ly =
-    let up = reduced-positive (add (left_num x (negated y)) (right_num x (negated y))) (common_den x (negated y)) (multiple_positive x.den y.den lx.positive ly.positive) in
-    value-sign no_square (sum x (negated y)) (add (scale y.den x.num) (scale x.den (neg y.num))) (x.den * y.den) up (mul-pos lx.positive ly.positive) (sum-value x (negated y))
-    ∙ (ap (sign d) (crosswise x.den y.den x.num y.num) ∙ sym (compare-is d (scale y.den x.num) (scale x.den y.num)))
 
 -- ---- inverses
 

@@ -2,7 +2,7 @@ ghost use Rattle.std.specs.Prelude.{◌≡◌, ◌≢◌, ◌<ℤ◌, ◌<◌, �
 ghost use Rattle.fs_quadratic.specs.Ring.{zero};
 ghost use Rattle.fs_fraction.specs.Arithmetic.{negated};
 ghost use Rattle.fs_fraction.specs.Divisor.{content, divide};
-ghost use Rattle.fs_fraction.specs.Fraction.{IsLowest, HasValue, reduced};
+ghost use Rattle.fs_fraction.specs.Fraction.{Fraction, IsLowest, HasValue, reduced};
 
 use crate::divisor::greatest_divisor;
 use fs_quadratic::Elem;
@@ -36,12 +36,13 @@ impl Model for Frac {
 }
 
 impl Frac {
-    /// The fraction num/den in lowest terms. The denominator has to be above 0.
+    /// The fraction num/den in lowest terms: the only one with this value. The denominator has to be above 0.
     pub fn new(num: Elem, den: i128) -> Frac
         requires { pos 0 <ℤ den }
         ensures reduced { result ≡ reduced num (unsigned_abs den) }
         ensures value { HasValue result num (unsigned_abs den) }
         ensures lowest { IsLowest result.num result.den }
+        ensures only { (y : Fraction) → IsLowest y.num y.den → HasValue y num (unsigned_abs den) → y ≡ result }
     {
         in_lowest_terms(num, den.unsigned_abs())
     }

@@ -127,11 +127,3 @@ first_quotient d root radicand low high =
       greater_one = omega arith;
       divides = omega arith;
     }
-
--- the whole part of √d is at most 31
-pub root_at_most : (d root : ℕ) → d ≤ 999 → root * root < d → root ≤ 31
-root_at_most d root h low = go (dec_lt 31 root)
-  where
-    go : Dec (31 < root) → root ≤ 31
-    go (no k) = omega arith
-    go (yes k) = let square = square_at_most 32 root k in absurd (omega arith)

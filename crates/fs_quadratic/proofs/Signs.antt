@@ -2,12 +2,11 @@
 use Rattle.std.proofs.Common.{◌≡◌, ◌↔◌, ℕ, ℤ, pos, neg_ℤ, ◌*ℤ◌, ◌<ℤ◌, ◌≤ℤ◌, [], ◌∷◌, refl, sym, ap, ◌∙◌, subst, arith}
 use Rattle.std.proofs.lemmas.Int.{ints, by_lt_z}
 use Rattle.std.specs.Ordering.{int_cmp, ordering_reverse, MatchOrdering}
-use Rattle.std.specs.Cmp.{IsTotalOrder, strict, int_ranks, int_cmp_is}
+use Rattle.std.specs.Cmp.{int_ranks, int_cmp_is}
 use Rattle.std.specs.declared.cmp.Ordering.{Ordering}
 use Rattle.std.specs.declared.cmp.Ordering.TheVariants.{Less, Equal, Greater}
 use Rattle.fs_ring.specs.OrderedRing.{positive, null, negative}
 use Rattle.fs_ring.proofs.RingLaws as ring
-use Rattle.fs_ring.proofs.Order as order
 use Rattle.fs_ring.proofs.Integers.{integer_ring}
 use Rattle.fs_ring.proofs.Solver.{expressions as E, ◌⊗◌, ◌≐◌, identity}
 use Rattle.fs_quadratic.specs.Radicand.{IsNoSquare}
@@ -127,18 +126,3 @@ module _ {d : ℕ} (no_square : IsNoSquare d) where
   pub less_iff_less : (r : Ordering) (x y : Quadratic) → r ≡ compare d x y → r ≡ Less ↔ IsLess d x y
   less_iff_less r x y e =
       subst (λ z. r ≡ Less ↔ IsPositive d z) (ring.neg-sub (quadratic_ring d) x y) (less_iff_negative r (sub x y) (e ∙ compare-is d x y))
-
-  -- the comparison says which of x < y, x = y and y < x holds
-  pub compare_ranks : (x y : Quadratic) → MatchOrdering (compare d x y) (IsLess d x y) (x ≡ y) (IsLess d y x)
-  unfolding compare
-  compare_ranks x y = go (sign d (sub x y)) (sign_ranks (sub x y))
-    where
-      go : (r : Ordering) → MatchOrdering r (IsPositive d (neg (sub x y))) (sub x y ≡ zero) (IsPositive d (sub x y))
-          → MatchOrdering r (IsLess d x y) (x ≡ y) (IsLess d y x)
-      go Less h = subst (IsPositive d) (ring.neg-sub (quadratic_ring d) x y) h
-      go Equal e = ring.eq_of_sub-zero (quadratic_ring d) x y e
-      go Greater h = h
-
-  -- it is a total order, as sorts ask for it
-  pub compare_total : IsTotalOrder (compare d)
-  compare_total = strict (IsLess d) (λ x. order.less_irrefl (quadratic_order no_square) x) (λ x y z. order.less_trans (quadratic_order no_square) x y z) (compare d) compare_ranks

@@ -1,4 +1,4 @@
--- Absolute values in an ordered ring.
+-- Absolute values in an ordered ring: a library for crates to come.
 use Rattle.std.proofs.Common.{◌≡◌, ◌⊎◌, [], ◌∷◌, refl, sym, ap, ◌∙◌, subst, inl, inr}
 use Rattle.fs_ring.specs.Operations.{Operations, square}
 use Rattle.fs_ring.specs.OrderedRing.{IsOrderedRing, Sign, positive, null, negative, IsAtMost, IsNonNegative, IsAbsolute, abs, magnitude}

@@ -1,4 +1,4 @@
--- Lengths and directions of vectors over an ordered ring.
+-- Lengths and directions of vectors over an ordered ring: a library for crates to come.
 use Rattle.std.proofs.Common.{◌≡◌, ◌≢◌, ◌⊎◌, true, List, [], ◌∷◌, refl, ap, ◌∙◌, inl, inr}
 use Rattle.fs_ring.specs.Operations.{Operations, square}
 use Rattle.fs_ring.specs.OrderedRing.{IsOrderedRing, Sign, positive, null, negative, IsAtMost, IsNonNegative}

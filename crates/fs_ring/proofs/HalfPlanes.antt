@@ -1,4 +1,4 @@
--- Half planes and sectors, and the counterclockwise order of directions, over an ordered ring.
+-- Half planes and sectors, and the counterclockwise order of directions, over an ordered ring: a library for crates to come.
 use Rattle.std.proofs.Common.{◌≡◌, ◌≢◌, ◌⊎◌, [], ◌∷◌, refl, sym, ap, ◌∙◌, inl, inr}
 use Rattle.fs_ring.specs.Operations.{Operations}
 use Rattle.fs_ring.specs.OrderedRing.{IsOrderedRing, IsNonNegative}

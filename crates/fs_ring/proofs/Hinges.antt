@@ -1,4 +1,4 @@
--- The hinge, the two triangles at an edge: a and b are the other two sides of one, c and g those of the other.
+-- The hinge, the two triangles at an edge: a and b are the other two sides of one, c and g those of the other. A library for crates to come.
 use Rattle.std.proofs.Common.{◌≡◌, [], ◌∷◌, refl, sym, ap, ◌∙◌, subst}
 use Rattle.fs_ring.specs.Operations.{Operations}
 use Rattle.fs_ring.specs.OrderedRing.{IsOrderedRing, positive, null, negative, IsNonNegative}

@@ -1,4 +1,4 @@
--- The whole numbers are an ordered ring.
+-- The whole numbers are an ordered ring: a library for crates to come.
 use Rattle.std.proofs.Common.{◌≡◌, zero, suc, ◌*◌, ℤ, pos, negsuc, neg_ℤ, ◌+ℤ◌, ◌*ℤ◌, ◌<ℤ◌, ◌≤ℤ◌, ◌↔◌, refl, sym, ap, ◌∙◌, arith, ltb→lt, lt→ltb, mul-pos}
 use Rattle.std.proofs.Math.IntN.{suc_ℤ, pred_ℤ, suc_ℤ-+ℤ, pred_ℤ-+ℤ, suc_ℤ-*ℤ, pred_ℤ-*ℤ, zero-*ℤ, *ℤ_comm, +ℤ_assoc, +ℤ_comm, +ℤ_idl, +ℤ_idr, +ℤ_invl, +ℤ_invr}
 use Rattle.std.proofs.lemmas.Int.{ints, by_lt_z}

@@ -1,4 +1,4 @@
--- The order of an ordered ring: it is total, and respects sums and products by positive elements.
+-- The order of an ordered ring: it is total, and respects sums and products by positive elements. A library for crates to come.
 use Rattle.std.proofs.Common.{◌≡◌, ◌≢◌, ◌⊎◌, [], ◌∷◌, refl, sym, ap, subst, inl, inr}
 use Rattle.fs_ring.specs.Operations.{Operations, sub, square}
 use Rattle.fs_ring.specs.OrderedRing.{IsOrderedRing, positive, null, negative, IsLess, IsAtMost, IsNonNegative, Comparison, less, equal, greater}

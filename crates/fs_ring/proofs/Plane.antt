@@ -1,4 +1,4 @@
--- Identities of plane geometry over a commutative ring.
+-- Identities of plane geometry over a commutative ring: a library for crates to come.
 use Rattle.std.proofs.Common.{◌≡◌, [], ◌∷◌, refl}
 use Rattle.fs_ring.specs.Operations.{Operations, sub, square}
 use Rattle.fs_ring.specs.CommutativeRing.{IsCommutativeRing}

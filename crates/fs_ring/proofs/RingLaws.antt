@@ -1,4 +1,4 @@
--- What follows at once from the laws of a commutative ring. Identities of polynomials are the solver's.
+-- What follows at once from the laws of a commutative ring. Identities of polynomials are the solver's: a library for crates to come.
 use Rattle.std.proofs.Common.{◌≡◌, ℕ, zero, suc, ◌≢◌, refl, sym, ap, ◌∙◌, add-zero, add-suc, mul-zero, mul-suc}
 use Rattle.std.proofs.Common as nat
 use Rattle.fs_ring.specs.Operations.{Operations, sub, of_nat}

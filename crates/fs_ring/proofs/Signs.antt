@@ -1,4 +1,4 @@
--- Signs in an ordered ring: of negatives, products, squares and numerals.
+-- Signs in an ordered ring: of negatives, products, squares and numerals. A library for crates to come.
 use Rattle.std.proofs.Common.{◌≡◌, ◌≢◌, ◌⊎◌, ℕ, zero, suc, true, List, [], ◌∷◌, refl, sym, ap, ◌∙◌, subst, inl, inr}
 use Rattle.fs_ring.specs.Operations.{Operations, sub, square, of_nat}
 use Rattle.fs_ring.specs.OrderedRing.{IsOrderedRing, Sign, positive, null, negative, IsNonNegative}
