@@ -12,7 +12,7 @@ use Rattle.fs_gluing.specs.Polygons.{at_side}
 use Rattle.fs_gluing.specs.Scaling.{scaled, common_den}
 use Rattle.fs_gluing.specs.Surface.{GluedPolygons, side_vectors}
 
--- the vectors of a shape's polygons, times their least common denominator
+-- the vectors of a shape's polygons, times their common denominator
 abbrev pub polygons_of : Shape → List (List V2)
 polygons_of shape = scaled shape.polygons
 
@@ -31,15 +31,15 @@ pub record AreGlued (polygons : List (List Side)) (one two : Corner) : Type 0 wh
   pub forth : (side : Side) × (at_side polygons one ≡ Some side) × (side.partner ≡ two)
   pub back : (side : Side) × (at_side polygons two ≡ Some side) × (side.partner ≡ one)
 
--- the vector over den is the one in true size
-abbrev pub IsInSize : ℕ → Point → V2 → Type 0
-IsInSize den point vector = HasValue point.x vector.x den × HasValue point.y vector.y den
+-- the vector over den is the unscaled one
+abbrev pub IsScaledVector : ℕ → Point → V2 → Type 0
+IsScaledVector den point vector = HasValue point.x vector.x den × HasValue point.y vector.y den
 
--- the surface has the shape's polygons, times the least common denominator, and is glued as its lines say
+-- the surface has the shape's polygons, times the common denominator, and the sides on each glue line are glued
 pub record HasShape (d : ℕ) (shape : Shape) (s : GluedPolygons) : Type 0 where
   pub field : s.d ≡ d
   pub denominator : s.den ≡ pos (common_den shape.polygons)
   pub same_vectors : map side_vectors s.polygons ≡ polygons_of shape
-  pub in_size : (c : Corner) (point : Point) (side : Side) → at_side shape.polygons c ≡ Some point → at_side s.polygons c ≡ Some side
-      → IsInSize (unsigned_abs s.den) point side.vector
+  pub each_scaled : (c : Corner) (point : Point) (side : Side) → at_side shape.polygons c ≡ Some point → at_side s.polygons c ≡ Some side
+      → IsScaledVector (unsigned_abs s.den) point side.vector
   pub as_the_lines : AllByRecursion (λ g. AreGlued s.polygons g.one g.two) shape.glues

@@ -1,3 +1,3 @@
-pub mod Cones
-pub mod Marks
-pub mod Found
+pub mod VertexList
+pub mod CornerMarks
+pub mod VerticesFound

@@ -1,5 +1,5 @@
--- The sum is refused where it leaves the width.
-use Rattle.fs_gluing.proofs.AreaSums.{triangle, triangle_stops}
+-- Where the sum overflows, the site is that of place 4.
+use Rattle.fs_gluing.proofs.Surface.AreaSums.{triangle, triangle_stops}
 use Rattle.fs_gluing.proofs.areas.add_triangle.Goals as goal
 
 pub returns-in-Err-add : goal.returns-in-Err-add

@@ -1,7 +1,7 @@
 use Rattle.std.specs.BTreeMap.{get}
 use Rattle.fs_gluing.specs.Gluing.{corner_cmp}
-use Rattle.fs_gluing.proofs.Rows.{GluesTo}
+use Rattle.fs_gluing.proofs.Glue.GluedSides.{GluesSidesUpTo}
 use Rattle.fs_gluing.proofs.building.glue_polygon.Given as goal
 
 abbrev pub invariant-loop-j : goal.invariant-loop-j
-invariant-loop-j l = GluesTo (get corner_cmp l.partners) l.i l.sides l.j l.row
+invariant-loop-j l = GluesSidesUpTo (get corner_cmp l.partners) l.i l.sides l.j l.row

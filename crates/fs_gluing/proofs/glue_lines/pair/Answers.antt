@@ -1,4 +1,4 @@
-use Rattle.fs_gluing.proofs.Pairs.{partners_more}
+use Rattle.fs_gluing.proofs.Glue.Partners.{partners_more}
 use Rattle.fs_gluing.proofs.glue_lines.pair.Goals as goal
 
 pub returns : goal.returns

@@ -1,7 +1,7 @@
 use Rattle.std.specs.BTreeMap.{get}
 use Rattle.fs_gluing.specs.Gluing.{corner_cmp}
-use Rattle.fs_gluing.proofs.Lines.{Lines}
+use Rattle.fs_gluing.proofs.Glue.GlueLines.{PassesLinesUpTo}
 use Rattle.fs_gluing.proofs.glue_lines.pair_sides.Given as goal
 
 abbrev pub invariant-loop-glue : goal.invariant-loop-glue
-invariant-loop-glue l = Lines l.polygons l.glues l.glue-index (get corner_cmp l.partners)
+invariant-loop-glue l = PassesLinesUpTo l.polygons l.glues l.glue-index (get corner_cmp l.partners)

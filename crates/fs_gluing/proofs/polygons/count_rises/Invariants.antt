@@ -1,5 +1,5 @@
-use Rattle.fs_gluing.proofs.Bends.{Rises}
+use Rattle.fs_gluing.proofs.Polygon.ConvexCorners.{CountsRisesUpTo}
 use Rattle.fs_gluing.proofs.polygons.count_rises.Given as goal
 
 abbrev pub invariant-loop-after : goal.invariant-loop-after
-invariant-loop-after l = Rises l.field.d l.sides l.after-index l.before l.rises
+invariant-loop-after l = CountsRisesUpTo l.field.d l.sides l.after-index l.before l.rises

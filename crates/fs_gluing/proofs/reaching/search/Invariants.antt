@@ -1,5 +1,5 @@
 use Rattle.std.proofs.Common.{length, ◌+◌, not, count_by}
-use Rattle.fs_gluing.proofs.Search.{Searches}
+use Rattle.fs_gluing.proofs.Glue.Search.{Searches}
 use Rattle.fs_gluing.proofs.reaching.search.Given as goal
 
 abbrev pub invariant-loop-i : goal.invariant-loop-i

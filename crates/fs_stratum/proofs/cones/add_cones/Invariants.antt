@@ -1,4 +1,4 @@
-use Rattle.fs_stratum.specs.Found.{AreFoundBefore}
+use Rattle.fs_stratum.specs.VerticesFound.{AreFoundBefore}
 use Rattle.fs_stratum.proofs.cones.add_cones.Given as goal
 
 abbrev pub invariant-loop-j : goal.invariant-loop-j

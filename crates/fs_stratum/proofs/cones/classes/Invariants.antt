@@ -1,4 +1,4 @@
-use Rattle.fs_stratum.specs.Found.{AreFoundBefore}
+use Rattle.fs_stratum.specs.VerticesFound.{AreFoundBefore}
 use Rattle.fs_stratum.proofs.cones.classes.Given as goal
 
 abbrev pub invariant-loop-i : goal.invariant-loop-i

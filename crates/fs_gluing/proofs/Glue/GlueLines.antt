@@ -1,0 +1,123 @@
+-- The tests of the glue lines, line by line.
+use Rattle.std.proofs.Common.{◌≡◌, ◌≢◌, ℕ, ◌+◌, false, Option, Some, None, List, [], ◌∷◌, ◌++◌, take, drop, sym, ap, ◌∙◌, refl, subst}
+use Rattle.std.proofs.lemmas.List.{take_more, drop_more}
+use Rattle.std.specs.List.{AllByRecursion}
+use Rattle.std.specs.Option.{IsSome, is_some}
+use Rattle.fs_plane.specs.declared.corners.Corner.{Corner}
+use Rattle.fs_plane.specs.declared.vector.V2.{V2}
+use Rattle.fs_plane.specs.Vector.{vector_neg}
+use Rattle.fs_gluing.specs.declared.shapes.Glue.{Glue}
+use Rattle.fs_gluing.specs.declared.faults.BuildStop.{BuildStop}
+use Rattle.fs_gluing.specs.declared.faults.Fault.TheVariants as faults
+use Rattle.fs_gluing.specs.declared.faults.BuildStop.TheVariants as stops
+use Rattle.fs_gluing.specs.Polygons.{HasSide, at_side}
+use Rattle.fs_gluing.specs.FirstFault.{LineTest, sides_exist, glued_once, sides_opposite, AreOpposite, PassesLine, line_tests, of_line, stop_of}
+use Rattle.fs_gluing.specs.Gluing.{ArePartners}
+use Rattle.fs_gluing.specs.TestsInOrder.{PassesBefore, IsFirstStop}
+use Rattle.fs_gluing.proofs.Base.TestsInOrder.{passes_before_more, passes_before_same, first_stop_of_rest, first_stop_of_head, first_stop_of_prefix}
+use Rattle.fs_gluing.proofs.Base.Items.{IsItem}
+use Rattle.fs_gluing.proofs.Glue.Partners.{listed_has_partner, listed_from_partner}
+
+-- the stop of a test of a glue line
+abbrev pub line_stop : LineTest → BuildStop
+line_stop test = stop_of (of_line test)
+
+-- a line to read where there is none
+abbrev pub no_glue : Glue
+no_glue = record { line = 0; one = record { polygon = 0; side = 0 }; two = record { polygon = 0; side = 0 } }
+
+-- ---- one line
+
+module _ (polygons : List (List V2)) (earlier : List Glue) (g : Glue) where
+  abbrev Stops : BuildStop → Type 0
+  Stops e = IsFirstStop (PassesLine polygons) (line_tests earlier (g ∷ [])) line_stop e
+
+  pub absent_fails : ¬ (HasSide polygons g.one × HasSide polygons g.two) → Stops (stops.Fault (faults.NoSuchSide g.line))
+  absent_fails absent = first_stop_of_head (PassesLine polygons) (sides_exist g) _ line_stop _ refl absent
+
+  present_then : HasSide polygons g.one × HasSide polygons g.two → PassesBefore (PassesLine polygons) (line_tests earlier (g ∷ [])) (glued_once earlier g ∷ sides_opposite g ∷ [])
+  present_then present = record { before = sides_exist g ∷ []; whole = refl; passed = (present, tt) }
+
+  pub twice_fails : HasSide polygons g.one × HasSide polygons g.two → ¬ PassesLine polygons (glued_once earlier g) → Stops (stops.Fault (faults.GluedTwice g.line))
+  twice_fails present twice =
+      first_stop_of_rest _ _ _ _ _ (present_then present) (first_stop_of_head (PassesLine polygons) (glued_once earlier g) _ line_stop _ refl twice)
+
+  single_then : HasSide polygons g.one × HasSide polygons g.two → PassesLine polygons (glued_once earlier g)
+      → PassesBefore (PassesLine polygons) (line_tests earlier (g ∷ [])) (sides_opposite g ∷ [])
+  single_then present single = passes_before_more _ _ (glued_once earlier g ∷ []) _ (present_then present) (single, tt)
+
+  pub opposite_fails : HasSide polygons g.one × HasSide polygons g.two → PassesLine polygons (glued_once earlier g) → ¬ PassesLine polygons (sides_opposite g) → Stops (stops.Fault (faults.NotOpposite g.line))
+  opposite_fails present single other =
+      first_stop_of_rest _ _ _ _ _ (single_then present single) (first_stop_of_head (PassesLine polygons) (sides_opposite g) _ line_stop _ refl other)
+
+  pub line_passes : HasSide polygons g.one × HasSide polygons g.two → PassesLine polygons (glued_once earlier g) → PassesLine polygons (sides_opposite g)
+      → AllByRecursion (PassesLine polygons) (line_tests earlier (g ∷ []))
+  line_passes present single opposite = (present, (single, (opposite, tt)))
+
+  -- the sides of a line are glued once where they differ and have no partners yet
+  pub single_by : (p : Corner → Option Corner) → ArePartners earlier p → g.one ≢ g.two → ¬ IsSome (p g.one) → ¬ IsSome (p g.two) → PassesLine polygons (glued_once earlier g)
+  single_by p a differ one two = (differ, (λ h. one (listed_has_partner earlier p g.one a h)), (λ h. two (listed_has_partner earlier p g.two a h)))
+
+  pub not_single_one : (p : Corner → Option Corner) → ArePartners earlier p → IsSome (p g.one) → ¬ PassesLine polygons (glued_once earlier g)
+  not_single_one p a there single = single.1 (listed_from_partner earlier p g.one a there)
+
+  pub not_single_two : (p : Corner → Option Corner) → ArePartners earlier p → IsSome (p g.two) → ¬ PassesLine polygons (glued_once earlier g)
+  not_single_two p a there single = single.2 (listed_from_partner earlier p g.two a there)
+
+pub are_opposite : (a b : Option V2) (v w : V2) → a ≡ Some v → b ≡ Some w → w ≡ vector_neg v → AreOpposite a b
+are_opposite a b v w is_a is_b e = subst (λ o. AreOpposite o b) (sym is_a) (subst (AreOpposite (Some v)) (sym is_b) e)
+
+pub vectors_opposite : (a b : Option V2) (v w : V2) → a ≡ Some v → b ≡ Some w → AreOpposite a b → w ≡ vector_neg v
+vectors_opposite a b v w is_a is_b h = let P : Option V2 → Type 0 = AreOpposite (Some v) in subst P is_b (subst (λ o. AreOpposite o b) is_a h)
+
+-- ---- the lines in turn
+
+-- the lines before line i pass, and p gives the partners from them
+pub record PassesLinesUpTo (polygons : List (List V2)) (glues : List Glue) (i : ℕ) (p : Corner → Option Corner) : Type 0 where
+  pub passed : PassesBefore (PassesLine polygons) (line_tests [] glues) (line_tests (take i glues) (drop i glues))
+  pub partners : ArePartners (take i glues) p
+
+next_tests : (glues : List Glue) (i : ℕ) (g : Glue) → IsItem glues i g
+    → line_tests (take i glues) (drop i glues) ≡ line_tests (take i glues) (g ∷ []) ++ line_tests (take (i + 1) glues) (drop (i + 1) glues)
+next_tests glues i g item =
+    let rest : drop i glues ≡ g ∷ drop (i + 1) glues = drop_more glues i g item.inside ∙ ap (λ h. h ∷ drop (i + 1) glues) (sym item.is) in
+    let front : take i glues ++ g ∷ [] ≡ take (i + 1) glues = ap (λ h. take i glues ++ h ∷ []) item.is ∙ sym (take_more glues i g item.inside) in
+    ap (line_tests (take i glues)) rest ∙ ap (λ (gs : List Glue). line_tests (take i glues) (g ∷ []) ++ line_tests gs (drop (i + 1) glues)) front
+
+pub lines_more : (polygons : List (List V2)) (glues : List Glue) (i : ℕ) (g : Glue) (p q : Corner → Option Corner) → IsItem glues i g → PassesLinesUpTo polygons glues i p
+    → AllByRecursion (PassesLine polygons) (line_tests (take i glues) (g ∷ [])) → ArePartners (take i glues ++ g ∷ []) q → PassesLinesUpTo polygons glues (i + 1) q
+lines_more polygons glues i g p q item l a partners = record {
+  passed = passes_before_more _ _ (line_tests (take i glues) (g ∷ [])) _ (passes_before_same _ _ _ _ (next_tests glues i g item) l.passed) a;
+  partners = subst (λ gs. ArePartners gs q) (ap (λ h. take i glues ++ h ∷ []) item.is ∙ sym (take_more glues i g item.inside)) partners;
+}
+
+pub line_fails : (polygons : List (List V2)) (glues : List Glue) (i : ℕ) (g : Glue) (p : Corner → Option Corner) (e : BuildStop) → IsItem glues i g → PassesLinesUpTo polygons glues i p
+    → IsFirstStop (PassesLine polygons) (line_tests (take i glues) (g ∷ [])) line_stop e → IsFirstStop (PassesLine polygons) (line_tests [] glues) line_stop e
+line_fails polygons glues i g p e item l a =
+    first_stop_of_rest _ _ _ _ _ (passes_before_same _ _ _ _ (next_tests glues i g item) l.passed) (first_stop_of_prefix _ _ _ _ _ a)
+
+-- ---- what holds of all lines
+
+pub lines_hold : (polygons : List (List V2)) (P : Glue → Type 0) → ((earlier : List Glue) (g : Glue) → PassesLine polygons (sides_exist g) → PassesLine polygons (glued_once earlier g) → PassesLine polygons (sides_opposite g) → P g)
+    → (earlier glues : List Glue) → AllByRecursion (PassesLine polygons) (line_tests earlier glues) → AllByRecursion P glues
+lines_hold polygons P from earlier [] a = tt
+lines_hold polygons P from earlier (g ∷ glues) a = (from earlier g a.0 a.1.0 a.1.1.0, lines_hold polygons P from (earlier ++ g ∷ []) glues a.1.1.1)
+
+-- ---- sides that exist, and sides that don't
+
+pub there_by : (polygons : List (List V2)) (g : Glue) (v w : V2) → at_side polygons g.one ≡ Some v → at_side polygons g.two ≡ Some w → HasSide polygons g.one × HasSide polygons g.two
+there_by polygons g v w is_one is_two = (subst IsSome (sym is_one) refl, subst IsSome (sym is_two) refl)
+
+none_not_some : {X : Type 0} (o : Option X) → o ≡ None → ¬ IsSome o
+none_not_some None e h = cc
+none_not_some (Some x) e h = cc
+
+pub absent_one : (polygons : List (List V2)) (g : Glue) → at_side polygons g.one ≡ None → ¬ (HasSide polygons g.one × HasSide polygons g.two)
+absent_one polygons g e h = none_not_some _ e h.0
+
+pub absent_two : (polygons : List (List V2)) (g : Glue) → at_side polygons g.two ≡ None → ¬ (HasSide polygons g.one × HasSide polygons g.two)
+absent_two polygons g e h = none_not_some _ e h.1
+
+pub not_some : {X : Type 0} (o : Option X) → is_some o ≡ false → ¬ IsSome o
+not_some None e h = cc
+not_some (Some x) e h = cc

@@ -1,0 +1,109 @@
+-- A surface has at most one list of vertices, and one genus for their number.
+use Rattle.std.proofs.Common.{◌≡◌, ◌⊎◌, inl, inr, ℕ, suc, List, [], ◌∷◌, sym, ap, ◌∙◌, refl, subst, arith}
+use Rattle.std.proofs.lemmas.Bool.{cases_order}
+use Rattle.std.specs.declared.cmp.Ordering.TheVariants.{Less}
+use Rattle.fs_cycles.specs.Cycles.{IsIn}
+use Rattle.fs_cycles.proofs.Lists.{in_of_contains, in_map}
+use Rattle.fs_plane.specs.declared.corners.Corner.{Corner}
+use Rattle.fs_gluing.specs.Gluing.{corner_cmp}
+use Rattle.fs_gluing.specs.Surface.{GluedPolygons, IsSurface}
+use Rattle.fs_gluing.specs.Vertices.{AreOneVertex, IsCount, IsConeNumber}
+use Rattle.fs_stratum.specs.declared.cones.Cone.{Cone}
+use Rattle.fs_stratum.specs.VertexList.{IsVertex, AreVertices, AreAscending, IsGenus}
+use Rattle.fs_stratum.proofs.AllSides.{corner_eq}
+use Rattle.fs_stratum.proofs.VertexOrbits.{one_vertex_comm}
+use Rattle.fs_stratum.proofs.VerticesFound.{less_of, of_less}
+use Rattle.fs_stratum.proofs.Parity.{less_trans, firsts, ascending_tail, ascending_less, cone_at}
+
+-- ---- the order of corners is total
+
+pub not_less_itself : (a : Corner) → corner_cmp a a ≡ Less → ⊥
+not_less_itself a h = elim (of_less a a h) [ inl l ↦ omega arith | inr k ↦ let l = k.1 in omega arith ]
+
+pub not_less_both_ways : (a b : Corner) → corner_cmp a b ≡ Less → corner_cmp b a ≡ Less → ⊥
+not_less_both_ways a b h k = not_less_itself a (less_trans a b a h k)
+
+corner_cases : (a b : Corner) → (a ≡ b) ⊎ ((corner_cmp a b ≡ Less) ⊎ (corner_cmp b a ≡ Less))
+corner_cases a b = elim (cases_order a.polygon b.polygon) [
+  | inl e ↦ elim (cases_order a.side b.side) [
+    | inl f ↦ inl (corner_eq e f)
+    | inr s ↦ elim s [ inl l ↦ inr (inl (less_of a b (inr (e, l)))) | inr l ↦ inr (inr (less_of b a (inr (sym e, l)))) ]
+  ]
+  | inr s ↦ elim s [ inl l ↦ inr (inl (less_of a b (inl l))) | inr l ↦ inr (inr (less_of b a (inl l))) ]
+]
+
+-- ---- a count is unique
+
+count_unique : (P : Corner → Type 0) (xs : List Corner) (m n : ℕ) → IsCount P xs m → IsCount P xs n → m ≡ n
+count_unique P [] m n h k = h ∙ sym k
+count_unique P (x ∷ xs) m n h k = elim h [
+  | inl a ↦ elim k [
+    | inl b ↦ a.1.1 ∙ ap (λ n. suc n) (count_unique P xs a.1.0 b.1.0 a.1.2 b.1.2) ∙ sym b.1.1
+    | inr b ↦ absurd (b.0 a.0)
+  ]
+  | inr a ↦ elim k [
+    | inl b ↦ absurd (a.0 b.0)
+    | inr b ↦ count_unique P xs m n a.1 b.1
+  ]
+]
+
+-- ---- ascending lists with the same cones
+
+head_unique : (x y : Cone) (xs ys : List Cone) → AreAscending (firsts (x ∷ xs)) → AreAscending (firsts (y ∷ ys)) → IsIn x (y ∷ ys) → IsIn y (x ∷ xs) → x ≡ y
+head_unique x y xs ys a b h k = elim h [
+  | inl e ↦ e
+  | inr i ↦ elim k [
+    | inl e ↦ sym e
+    | inr j ↦ absurd (not_less_both_ways x.first y.first
+        (ascending_less x xs a y.first (in_map (λ (cone : Cone). cone.first) y xs j))
+        (ascending_less y ys b x.first (in_map (λ (cone : Cone). cone.first) x ys i)))
+  ]
+]
+
+-- an item after the head of one list is after the head of the other
+later_in : (x y c : Cone) (xs ys : List Cone) → AreAscending (firsts (x ∷ xs)) → x ≡ y → IsIn c xs → IsIn c (y ∷ ys) → IsIn c ys
+later_in x y c xs ys a e i h = elim h [
+  | inl f ↦ absurd (not_less_itself x.first (subst (λ (z : Cone). corner_cmp x.first z.first ≡ Less) (f ∙ sym e) (ascending_less x xs a c.first (in_map (λ (cone : Cone). cone.first) c xs i))))
+  | inr j ↦ j
+]
+
+ascending_unique : (xs ys : List Cone) → AreAscending (firsts xs) → AreAscending (firsts ys) → ((c : Cone) → IsIn c xs → IsIn c ys) → ((c : Cone) → IsIn c ys → IsIn c xs) → xs ≡ ys
+ascending_unique [] [] a b f g = refl
+ascending_unique [] (y ∷ ys) a b f g = absurd (g y (inl refl))
+ascending_unique (x ∷ xs) [] a b f g = absurd (f x (inl refl))
+ascending_unique (x ∷ xs) (y ∷ ys) a b f g =
+    let e = head_unique x y xs ys a b (f x (inl refl)) (g y (inl refl)) in
+    let rest = ascending_unique xs ys (ascending_tail x xs a) (ascending_tail y ys b)
+    (λ c i. later_in x y c xs ys a e i (f c (inr i)))
+    (λ c i. later_in y x c ys xs b (sym e) i (g c (inr i))) in
+    λ i. e i ∷ rest i
+
+-- ---- the vertices of a surface
+
+module _ (s : GluedPolygons) (surface : IsSurface s) where
+  -- a vertex has one least corner and one cone number
+  vertex_unique : (x y : Cone) → IsVertex s x → IsVertex s y → AreOneVertex s.polygons x.first y.first → x ≡ y
+  vertex_unique x y p q o =
+      let there = p.there in
+      let first : x.first ≡ y.first = elim (corner_cases x.first y.first) [
+        | inl e ↦ e
+        | inr c ↦ elim c [
+          | inl l ↦ absurd (q.least x.first (one_vertex_comm s.polygons surface.glued x.first y.first there o) l)
+          | inr l ↦ absurd (p.least y.first o l)
+        ]
+      ] in
+      let number : x.k ≡ y.k = count_unique _ _ x.k y.k p.number (subst (λ c. IsConeNumber s c y.k) (sym first) q.number) in
+      λ i. record { first = first i; k = number i }
+
+  listed_too : (xs ys : List Cone) → AreVertices s xs → AreVertices s ys → (c : Cone) → IsIn c xs → IsIn c ys
+  listed_too xs ys a b c i =
+      let p = cone_at s surface xs c a.each i in
+      let found = b.all c.first p.there in
+      let j = in_of_contains found.0 ys found.1 in
+      subst (λ (x : Cone). IsIn x ys) (vertex_unique found.0 c (cone_at s surface ys found.0 b.each j) p found.2) j
+
+pub vertex_list_unique : (s : GluedPolygons) → IsSurface s → (xs ys : List Cone) → AreVertices s xs → AreVertices s ys → xs ≡ ys
+vertex_list_unique s surface xs ys a b = ascending_unique xs ys a.ascending b.ascending (listed_too s surface xs ys a b) (listed_too s surface ys xs b a)
+
+pub genus_unique : (s : GluedPolygons) (vertices g h : ℕ) → IsGenus s vertices g → IsGenus s vertices h → g ≡ h
+genus_unique s vertices g h a b = omega arith
