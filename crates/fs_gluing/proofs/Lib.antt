@@ -1,3 +1,4 @@
+-- The proofs of fs_gluing, by subject.
 pub mod Base
 pub mod Polygon
 pub mod Scale

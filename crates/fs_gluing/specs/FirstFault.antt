@@ -33,13 +33,14 @@ pub data PolygonTest : Type 0 where
   y_fits : (j : ℕ) → PolygonTest
   -- it closes
   polygon_closes : PolygonTest
-  -- at corner j the cross product of the two sides doesn't stop at place p
+  -- at corner j the cross product of the two sides doesn't overflow at place p
   cross_fits : (j : ℕ) → CornerSides → (p : ℕ) → PolygonTest
   -- corner j is strictly convex
   corner_convex : (j : ℕ) → CornerSides → PolygonTest
   -- its turning number is 1
   turning_number_one : PolygonTest
 
+-- the polygon passes the test
 abbrev pub PassesIn : ℕ → List V2 → PolygonTest → Type 0
 PassesIn d polygon three_sides = 3 ≤ length polygon
 PassesIn d polygon (x_fits j) = Fits (corner_position polygon (j + 1)).x
@@ -79,6 +80,7 @@ AreOpposite (Some a) (Some b) = b ≡ vector_neg a
 AreOpposite (Some a) None = ⊥
 AreOpposite None b = ⊥
 
+-- the glue line passes the test
 abbrev pub PassesLine : List (List V2) → LineTest → Type 0
 PassesLine polygons (sides_exist g) = HasSide polygons g.one × HasSide polygons g.two
 PassesLine polygons (glued_once earlier g) = (g.one ≢ g.two) × (¬ Contains (glued_sides earlier) g.one) × (¬ Contains (glued_sides earlier) g.two)
@@ -112,6 +114,7 @@ pub record Joins (glues : List Glue) (i j : ℕ) : Type 0 where
   pub from : one.polygon ≡ i
   pub to : two.polygon ≡ j
 
+-- a scaled shape passes the test
 abbrev pub Passes : ℕ → List (List V2) → List Glue → Test → Type 0
 Passes d polygons glues (of_scaling test) = PassesScale test
 Passes d polygons glues (of_polygon i polygon test) = PassesIn d polygon test

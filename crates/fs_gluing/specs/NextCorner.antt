@@ -10,6 +10,7 @@ abbrev pub length_or_0 : {X : Type 0} → Option (List X) → ℕ
 length_or_0 None = 0
 length_or_0 (Some polygon) = length polygon
 
+-- how many sides polygon i has; 0 where it doesn't exist
 abbrev pub side_count : {X : Type 0} → List (List X) → ℕ → ℕ
 side_count polygons i = length_or_0 (slice_get polygons i)
 

@@ -54,6 +54,7 @@ pub data ScaleTest : Type 0 where
   -- k times the part z is within the width: a part of x (places 3 and 4) or y (places 5 and 6)
   part_fits : (i j p k : ℕ) → (z : ℤ) → ScaleTest
 
+-- the numbers pass the test
 abbrev pub PassesScale : ScaleTest → Type 0
 PassesScale (common_fits i j p m n) = InWidth (pos (common_multiple m n))
 PassesScale (part_fits i j p k z) = InWidth (pos k *ℤ z)

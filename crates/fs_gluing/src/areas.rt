@@ -1,3 +1,5 @@
+// The area of a surface.
+
 ghost use Rattle.std.specs.Prelude.{◌≡◌, ◌<◌, ◌≤◌, [], ◌∷◌, IfOk, IfSome, length, drop};
 ghost use Rattle.std.specs.List.{slice_get};
 ghost use Rattle.fs_quadratic.specs.Ring.{zero};

@@ -1,3 +1,5 @@
+// The faults of a job, and why a shape has no surface.
+
 ghost use Rattle.std.specs.Prelude.{◌≡◌};
 ghost use Rattle.fs_gluing.specs.declared.faults.BuildStop.TheVariants.{NoMemory};
 

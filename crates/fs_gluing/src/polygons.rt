@@ -1,3 +1,5 @@
+// The tests of a polygon, and the positions of its corners.
+
 ghost use Rattle.std.specs.Prelude.{◌≡◌, ℕ, List, [], ◌∷◌, ◌++◌, ◌≤◌, ◌⊎◌, length, IfOk, OnOk, IfErr, count_by};
 ghost use Rattle.std.specs.List.{AllByRecursion};
 ghost use Rattle.fs_plane.specs.declared.vector.V2.{V2};

@@ -1,3 +1,5 @@
+// The test that a surface is connected.
+
 ghost use Rattle.std.specs.Prelude.{◌≡◌, ◌⊎◌, ◌<◌, ◌≤◌, Some, length, IfOk, OnOk, IfErr};
 ghost use Rattle.std.specs.List.{AllByRecursion, range_with_len};
 ghost use Rattle.fs_plane.specs.declared.corners.Corner.{Corner};

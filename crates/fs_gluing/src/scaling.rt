@@ -1,3 +1,5 @@
+// The common denominator of a shape, and its polygons times it.
+
 ghost use Rattle.std.specs.Prelude.{◌≡◌, ◌⊎◌, ◌≤◌, ◌<◌, ◌<ℤ◌, ◌+◌, ◌*ℤ◌, ◌/◌, ◌^◌, [], ◌∷◌, Some, length, map, pos, IfOk, IfSome, OnOk, IfErr};
 ghost use Rattle.std.specs.List.{AllByRecursion};
 ghost use Rattle.std.specs.Option.{SomeIff};

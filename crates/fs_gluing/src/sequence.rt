@@ -1,3 +1,5 @@
+// Lists that contracts see as their items.
+
 ghost use Rattle.std.specs.Prelude.{◌≡◌, [], ◌∷◌, ◌++◌, ◌==◌, length, OnOk, OnErr};
 
 use std::alloc::{AllocError, Global};

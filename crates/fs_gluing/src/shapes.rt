@@ -1,3 +1,5 @@
+// Shapes: what a surface is built from.
+
 use crate::sequence::Sequence;
 use fs_fraction::Frac;
 use fs_plane::Corner;

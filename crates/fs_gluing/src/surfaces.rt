@@ -1,3 +1,5 @@
+// Translation surfaces.
+
 ghost use Rattle.std.specs.Prelude.{◌≡◌, Some, length, sum_by, ◌+◌, ◌<◌, ◌↔◌, IsTrue, IfSome};
 ghost use Rattle.std.specs.List.{slice_get};
 

@@ -15,9 +15,11 @@ use Rattle.fs_cycles.proofs.Lists.{in_append_left, in_append_right, in_append_ca
 abbrev pub corner : ℕ → ℕ → Corner
 corner i j = record { polygon = i; side = j }
 
+-- corners with the same numbers are equal
 pub corner_eq : {a b : Corner} → a.polygon ≡ b.polygon → a.side ≡ b.side → a ≡ b
 corner_eq e f = λ i. record { polygon = e i; side = f i }
 
+-- equality of corners is decidable
 pub same_corner : IsDecidable Corner
 same_corner a b = elim (cases_eq a.polygon b.polygon) [
   | inl e ↦ elim (cases_eq a.side b.side) [ inl f ↦ inl (corner_eq e f) | inr n ↦ inr (λ (h : a ≡ b). n (ap (λ (c : Corner). c.side) h)) ]
@@ -28,9 +30,11 @@ same_corner a b = elim (cases_eq a.polygon b.polygon) [
 abbrev pub row : ℕ → ℕ → ℕ → List Corner
 row i a n = map (λ j. record { polygon = i; side = j }) (range_with_len a n)
 
+-- a corner between the bounds is in the row
 pub in_row : (i a n j : ℕ) → a ≤ j → j < a + n → IsIn (corner i j) (row i a n)
 in_row i a n j l m = in_map (corner i) j (range_with_len a n) (in_range a n j l m)
 
+-- a corner of the row is between the bounds
 pub row_in : (i a n : ℕ) (c : Corner) → IsIn c (row i a n) → (c.polygon ≡ i) × (a ≤ c.side) × (c.side < a + n)
 row_in i a n c h =
     let r = in_map_cases (corner i) c (range_with_len a n) h in
@@ -46,6 +50,7 @@ inside_of_some [] j h = cc
 inside_of_some (x ∷ xs) zero h = omega arith
 inside_of_some (x ∷ xs) (suc j) h = let l = inside_of_some xs j h in omega arith
 
+-- within a list there is an item
 pub some_of_inside : {X : Type 0} (xs : List X) (j : ℕ) → j < length xs → IsSome (slice_get xs j)
 some_of_inside [] j l = absurd (omega arith)
 some_of_inside (x ∷ xs) zero l = refl
@@ -68,6 +73,7 @@ pub record IsSideFrom {X : Type 0} (i : ℕ) (polygons : List (List X)) (c : Cor
   pub is : c.polygon ≡ i + offset
   pub there : HasSide polygons (corner offset c.side)
 
+-- a corner in the list of sides from polygon i on is one of these sides
 pub sides_from_in : {X : Type 0} (i : ℕ) (polygons : List (List X)) (c : Corner) → IsIn c (sides_from i polygons) → IsSideFrom i polygons c
 sides_from_in i [] c h = absurd h
 sides_from_in i (polygon ∷ polygons) c h = elim (in_append_cases c (row i 0 (length polygon)) (sides_from (i + 1) polygons) h) [
@@ -89,14 +95,17 @@ sides_from_distinct i (polygon ∷ polygons) =
     let one = ap (λ (c : Corner). c.polygon) same in
     absurd (omega arith))
 
+-- no side is in the list twice
 pub all_sides_distinct : {X : Type 0} (polygons : List (List X)) → IsDistinct (all_sides polygons)
 all_sides_distinct polygons = sides_from_distinct 0 polygons
 
+-- a side that exists is in the list
 pub in_all_sides : {X : Type 0} (polygons : List (List X)) (c : Corner) → HasSide polygons c → IsIn c (all_sides polygons)
 in_all_sides polygons c h =
     let same : 0 + c.polygon ≡ c.polygon = omega arith in
     subst (λ n. IsIn (corner n c.side) (all_sides polygons)) same (in_sides_from 0 c.polygon c.side polygons h)
 
+-- a side in the list exists
 pub all_sides_in : {X : Type 0} (polygons : List (List X)) (c : Corner) → IsIn c (all_sides polygons) → HasSide polygons c
 all_sides_in polygons c h =
     let s = sides_from_in 0 polygons c h in
@@ -111,5 +120,6 @@ length-sides_from {X} i (polygon ∷ polygons) =
     ∙ (λ k. length-map-range_with_len (corner i) 0 (length polygon) k + length-sides_from (i + 1) polygons k)
     ∙ sym (sum_by-cons length polygon polygons)
 
+-- the list has as many sides as the polygons together
 pub length-all_sides : {X : Type 0} (polygons : List (List X)) → length (all_sides polygons) ≡ sum_by length polygons
 length-all_sides polygons = length-sides_from 0 polygons

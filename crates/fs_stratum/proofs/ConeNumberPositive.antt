@@ -32,6 +32,7 @@ use Rattle.fs_stratum.proofs.CornerRays.{rays, raised_or, is_ray_raised, next_ra
 
 -- where a vector and the one to its left are both raised, or both not, it isn't on the line of (1,0)
 module _ {d : ℕ} (radicand : IsRadicand d) (v w : V2) (left : IsPositive d (cross d v w)) where
+  -- both are raised: v points up
   pub above : is_raised d v ≡ true → is_raised d w ≡ true → IsPositive d v.y
   above e f = go (sign d v.y) (sign d v.x) (sign d w.y) refl (convex_signs radicand v w left) e f
     where
@@ -42,6 +43,7 @@ module _ {d : ℕ} (radicand : IsRadicand d) (v w : V2) (left : IsPositive d (cr
       go Equal Equal av is t e f = absurd (t.from_zero refl refl)
       go Equal Greater av is t e f = cc
 
+  -- neither is raised: v points down
   pub below : is_raised d v ≡ false → is_raised d w ≡ false → IsPositive d (neg v.y)
   below e f = go (sign d v.y) (sign d v.x) (sign d w.y) refl (convex_signs radicand v w left) e f
     where
@@ -52,6 +54,7 @@ module _ {d : ℕ} (radicand : IsRadicand d) (v w : V2) (left : IsPositive d (cr
       go Equal Equal av is t e f = absurd (t.from_zero refl refl)
       go Equal Greater av is t e f = let up = ap (λ o. raised_by_signs o (sign d w.x)) (t.from_east refl refl) in cc
 
+-- (1,0)
 abbrev east : V2
 east = record { x = one; y = nil }
 
@@ -79,10 +82,12 @@ module _ {d : ℕ} (radicand : IsRadicand d) where
 
 -- ---- the rays of a vertex
 
+-- the vector of a side, or (0,0) where there is none
 abbrev vector_or : Option Side → V2
 vector_or None = vector_zero
 vector_or (Some side) = side.vector
 
+-- the ray of a corner: the vector of the side that begins there
 abbrev ray : GluedPolygons → Corner → V2
 ray s c = vector_or (at_side s.polygons c)
 
@@ -101,6 +106,7 @@ module _ (s : GluedPolygons) (surface : IsSurface s) where
       (directions.positive_by_plane (field_order surface.radicand) [] (vector_of r.before.vector ∷ vector_of r.after.vector ∷ []) (λ b a. cross_over E a (neg_vector E b) ≐ cross_over E b a) refl r.left))
 
   module _ (c : Corner) (h : HasSide s.polygons c) (none : (e : Corner) → AreOneVertex s.polygons c e → ¬ HoldsEast s e) where
+    -- the i-th corner after c
     abbrev at : ℕ → Corner
     at i = ahead s.polygons i c
 
@@ -147,6 +153,7 @@ module _ (s : GluedPolygons) (surface : IsSurface s) where
           (λ i l. left_of_west surface.radicand (ray s (at i)) (below surface.radicand (ray s (at i)) (ray s (at (suc i))) (left_at i) (lowered i) (lowered (suc i))))
           (λ i l. left_at i) (ap (ray s) back)
 
+  -- a cone number is at least 1
   pub cone_number_positive : (c : Corner) (k : ℕ) → HasSide s.polygons c → IsConeNumber s c k → 1 ≤ k
   cone_number_positive c zero h number =
       let none : (e : Corner) → AreOneVertex s.polygons c e → ¬ HoldsEast s e =

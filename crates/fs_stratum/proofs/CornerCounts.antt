@@ -6,6 +6,7 @@ use Rattle.fs_gluing.specs.Vertices.{IsCount}
 use Rattle.fs_cycles.specs.Cycles.{IsIn, IsDistinct}
 use Rattle.fs_stratum.proofs.Tallies.{tally, one_if}
 
+-- properties that hold of the same corners have one count
 pub count_same : (P Q : Corner → Type 0) (xs : List Corner) (k : ℕ) → ((c : Corner) → IsIn c xs → P c → Q c) → ((c : Corner) → IsIn c xs → Q c → P c) → IsCount P xs k → IsCount Q xs k
 count_same P Q [] k f g h = h
 count_same P Q (x ∷ xs) k f g h = elim h [
@@ -31,6 +32,7 @@ count_more P Q (y ∷ xs) x k apart (inr i) n q f g h =
       | inr b ↦ inr ((λ r. b.0 (g y other r)), count_more P Q xs x k apart.1 i n q f g b.1)
     ]
 
+-- a count is at most the length of the list
 pub count_at_most : (P : Corner → Type 0) (xs : List Corner) (k : ℕ) → IsCount P xs k → k ≤ length xs
 count_at_most P [] k h = omega arith
 count_at_most P (x ∷ xs) k h = elim h [
@@ -38,6 +40,7 @@ count_at_most P (x ∷ xs) k h = elim h [
   | inr b ↦ let l = count_at_most P xs k b.1 in omega arith
 ]
 
+-- where no corner has the property, the count is 0
 pub count_none : (P : Corner → Type 0) (xs : List Corner) → ((c : Corner) → IsIn c xs → ¬ P c) → IsCount P xs 0
 count_none P [] n = refl
 count_none P (x ∷ xs) n = inr (n x (inl refl), count_none P xs (λ c i. n c (inr i)))

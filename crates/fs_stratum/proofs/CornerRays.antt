@@ -22,14 +22,17 @@ use Rattle.fs_stratum.proofs.AxisSigns as axis
 use Rattle.fs_stratum.proofs.SectorOfEast.{is_held, raised-neg, holds_from_test, test_from_holds}
 use Rattle.fs_stratum.proofs.VertexOrbits.{next, partner_or}
 
+-- the value of an option
 pub record Value {X : Type 0} (o : Option X) : Type 0 where
   pub value : X
   pub is : o ≡ Some value
 
+-- an option that is some has a value
 pub value_of : {X : Type 0} (o : Option X) → IsSome o → Value o
 value_of None h = cc
 value_of (Some x) h = record { value = x; is = refl }
 
+-- what holds of all items holds of the one at index k
 pub all_at : {X : Type 0} (P : X → Type 0) (xs : List X) (k : ℕ) (x : X) → AllByRecursion P xs → slice_get xs k ≡ Some x → P x
 all_at P [] k x a e = cc
 all_at P (y ∷ xs) zero x a e = subst P (same_Some y x e) a.0
@@ -42,18 +45,22 @@ corner_at P b [] j e a all h k = cc
 corner_at P b (s ∷ sides) zero e a all h k = subst (λ x. P (record { before = x; after = a })) (same_Some b e k) (subst (λ x. P (record { before = b; after = x })) (same_Some s a h) all.0)
 corner_at P b (s ∷ sides) (suc j) e a all h k = corner_at P s sides j e a all.1 h k
 
+-- the number before k, modulo n
 abbrev pub before : ℕ → ℕ → ℕ
 before n k = if k == 0 then n - 1 else k - 1
 
+-- the number before 0
 pub before_zero : (n k : ℕ) → k ≡ 0 → before n k ≡ n - 1
 before_zero n k e = grind (arith, nat_tests)
 
+-- the number before k + 1
 pub before_suc : (n k : ℕ) → before n (suc k) ≡ k
 before_suc n k = grind (arith, nat_tests)
 
 vector_at : (polygon : List Side) (j : ℕ) (side : Side) → slice_get polygon j ≡ Some side → slice_get (side_vectors polygon) j ≡ Some side.vector
 vector_at polygon j side e = slice_get-map (λ (s : Side). s.vector) polygon j ∙ ap (option_map (λ (s : Side). s.vector)) e
 
+-- the last vector is that of the last side
 pub last_is : (polygon : List Side) (side : Side) → slice_get polygon (length polygon - 1) ≡ Some side → last_side (side_vectors polygon) ≡ side.vector
 last_is polygon side e =
     sym (last_side_is (side_vectors polygon))
@@ -71,6 +78,7 @@ corner_in P polygon (suc j) b a all e f =
 
 -- ---- the two sides at a corner
 
+-- the sides that end and begin at the corner, which is strictly convex
 pub record HasRays (s : GluedPolygons) (c : Corner) : Type 0 where
   pub before : Side
   pub after : Side
@@ -78,6 +86,7 @@ pub record HasRays (s : GluedPolygons) (c : Corner) : Type 0 where
   pub begins : at_side s.polygons c ≡ Some after
   pub convex : IsPositive s.d (cross s.d before.vector after.vector)
 
+-- a corner that exists has them
 pub rays : (s : GluedPolygons) → IsSurface s → (c : Corner) → HasSide s.polygons c → HasRays s c
 rays s surface c h =
     let st = in_polygon s.polygons c h in
@@ -100,6 +109,7 @@ abbrev pub raised_or : ℕ → Option Side → Bool
 raised_or d None = false
 raised_or d (Some side) = is_raised d side.vector
 
+-- the ray of the corner, along the side that begins there, is raised
 abbrev pub is_ray_raised : GluedPolygons → Corner → Bool
 is_ray_raised s c = raised_or s.d (at_side s.polygons c)
 
@@ -133,11 +143,13 @@ module _ (s : GluedPolygons) (surface : IsSurface s) (c : Corner) (h : HasSide s
       swap false true = refl
       swap false false = refl
 
+  -- a corner whose ray is not raised, and the next one is, holds (1,0)
   pub holds_from_rays : not (is_ray_raised s c) && is_ray_raised s (next s.polygons c) ≡ true → HoldsEast s c
   holds_from_rays e =
       let r = rays s surface c h in
       record { before = r.before; after = r.after; ends = r.ends; begins = r.begins; holds = holds_from_test surface.radicand r.before.vector r.after.vector r.convex (sym (held-rays r) ∙ e) }
 
+  -- the converse
   pub rays_from_holds : HoldsEast s c → not (is_ray_raised s c) && is_ray_raised s (next s.polygons c) ≡ true
   rays_from_holds k =
       let r = rays s surface c h in

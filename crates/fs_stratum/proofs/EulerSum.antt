@@ -27,6 +27,7 @@ genus_from v k f h n m l a b e = (m + 1 - (f + v), omega arith, omega arith)
 abbrev pub HasEvenSum : GluedPolygons → List Cone → Type 0
 HasEvenSum s cones = (m : ℕ) × (length s.polygons + length cones + tally (low_at s.d s.polygons) (all_sides s.polygons) ≡ 2 * m)
 
+-- cone numbers above 0 whose sum is the count of held corners have a genus, where the sum of the three numbers is even
 pub has_genus : (s : GluedPolygons) → IsSurface s → (cones : List Cone) → AllByRecursion (λ cone. 1 ≤ cone.k) cones → IsCount (HoldsEast s) (all_sides s.polygons) (sum_by (λ (cone : Cone). cone.k) cones)
     → HasEvenSum s cones → (g : ℕ) × HasGenus s cones g
 has_genus s surface cones positive total even =

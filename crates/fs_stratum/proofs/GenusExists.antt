@@ -55,5 +55,6 @@ module _ (s : GluedPolygons) (surface : IsSurface s) where
       (λ e i h. let f = c.all e (all_sides_in s.polygons e i) in ((f.0, in_of_contains f.0 cones f.1, f.2), h))
       (total_of_these cones c.each c.ascending)
 
+  -- a list of vertices has a genus
   pub genus_exists : (cones : List Cone) → AreVertices s cones → (g : ℕ) × HasGenus s cones g
   genus_exists cones c = has_genus s surface cones (all_positive cones c.each) (total_of_all cones c) (has_even_sum s surface cones c)

@@ -58,18 +58,22 @@ held-round {d} radicand (s ∷ sides) p =
 
 -- ---- by the numbers of the sides
 
+-- neither side at a corner is raised; false where one is missing
 abbrev pub held_or : ℕ → Option Side → Option Side → Bool
 held_or d None a = false
 held_or d (Some b) None = false
 held_or d (Some b) (Some a) = is_held d b.vector a.vector
 
+-- the side isn't raised; false where it is missing
 abbrev pub low_or : ℕ → Option Side → Bool
 low_or d None = false
 low_or d (Some a) = is_low d a.vector
 
+-- corner j of the polygon holds (1,0)
 abbrev held_in : ℕ → List Side → ℕ → Bool
 held_in d polygon j = held_or d (slice_get polygon (before (length polygon) j)) (slice_get polygon j)
 
+-- side j of the polygon isn't raised
 abbrev low_in : ℕ → List Side → ℕ → Bool
 low_in d polygon j = low_or d (slice_get polygon j)
 
@@ -106,9 +110,11 @@ held-polygon {d} radicand polygon p =
 
 -- ---- over all polygons
 
+-- the corner holds (1,0)
 abbrev pub held_at : ℕ → List (List Side) → Corner → Bool
 held_at d polygons c = held_or d (at_side polygons (side_before polygons c)) (at_side polygons c)
 
+-- the side isn't raised
 abbrev pub low_at : ℕ → List (List Side) → Corner → Bool
 low_at d polygons c = low_or d (at_side polygons c)
 

@@ -1,3 +1,4 @@
+-- The proofs of fs_stratum.
 pub mod Tallies
 pub mod AxisSigns
 pub mod SectorOfEast

@@ -56,6 +56,7 @@ slice_get-set_other (x ∷ xs) zero (suc k) v n = refl
 slice_get-set_other (x ∷ xs) (suc i) zero v n = refl
 slice_get-set_other (x ∷ xs) (suc i) (suc k) v n = slice_get-set_other xs i k v (λ e. n (ap (λ m. suc m) e))
 
+-- an index with an item is within the list
 pub within_by : {X : Type 0} (xs : List X) (k : ℕ) (x : X) → slice_get xs k ≡ Some x → k < length xs
 within_by [] k x e = cc
 within_by (y ∷ xs) zero x e = omega arith
@@ -69,6 +70,7 @@ some_set (x ∷ xs) (suc i) zero v h = refl
 some_set (x ∷ xs) (suc i) (suc k) v h = some_set xs i k v h
 
 module _ (marks : List (List Bool)) (c : Corner) (row : List Bool) (is : slice_get marks c.polygon ≡ Some row) (inside : c.side < length row) where
+  -- the marks after the one at c is set
   abbrev new : List (List Bool)
   new = set marks c.polygon (set row c.side true)
 
@@ -112,6 +114,7 @@ module _ {W : Type 0} (items : W → List Bool) (rows : List W) (old : List (Lis
       let st = in_polygon old c has in
       subst (λ r. c.side < length r) (same_Some st.polygon (items row) (sym st.is ∙ row_at)) st.inside
 
+  -- setting the mark at c marks corner c
   pub mark_set : (row' : W) → items row' ≡ set (items row) c.side true → MarksCorner c old (map items (set rows c.polygon row'))
   mark_set row' is =
       subst (MarksCorner c old)
@@ -119,6 +122,8 @@ module _ {W : Type 0} (items : W → List Bool) (rows : List W) (old : List (Lis
       (set_mark old c (items row) row_at row_inside)
 
 -- ---- one more row
+
+-- one more row without marks
 pub unmarked_more : {X W : Type 0} (items : W → List Bool) (rows longer : List W) (row : W) (polygons : List (List X)) (i n : ℕ) → map items rows ≡ unmarked_rows (take i polygons) → i < length polygons
     → IfSome (slice_get polygons i) (λ polygon. n ≡ length polygon) → items row ≡ replicate n false → longer ≡ rows ++ row ∷ [] → map items longer ≡ unmarked_rows (take (i + 1) polygons)
 unmarked_more {X} items rows longer row polygons i n before l is row_is longer_is =
@@ -131,5 +136,6 @@ unmarked_more {X} items rows longer row polygons i n before l is row_is longer_i
     ap unmarked_rows (take_more polygons i r.value l ∙ ap (λ (p : List X). take i polygons ++ p ∷ []) here) ∙ map-append (λ (polygon : List X). replicate (length polygon) false) (take i polygons) (r.value ∷ []) in
     left ∙ (λ k. before k ++ row_unmarked k ∷ []) ∙ sym right
 
+-- after all polygons no corner is marked
 pub unmarked_all : {X W : Type 0} (items : W → List Bool) (rows : List W) (polygons : List (List X)) (n : ℕ) → map items rows ≡ unmarked_rows (take n polygons) → length polygons ≤ n → AreUnmarked polygons (map items rows)
 unmarked_all items rows polygons n e l = subst (AreUnmarked polygons) (sym (e ∙ ap unmarked_rows (take_all n polygons l))) (rows_unmarked polygons)

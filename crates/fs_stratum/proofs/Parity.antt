@@ -30,19 +30,23 @@ use Rattle.fs_stratum.proofs.EulerSum.{HasEvenSum}
 
 -- ---- least corners
 
+-- the order of corners is transitive
 pub less_trans : (a b c : Corner) → corner_cmp a b ≡ Less → corner_cmp b c ≡ Less → corner_cmp a c ≡ Less
 less_trans a b c h k = less_of a c (elim (of_less a b h) [
   | inl l ↦ elim (of_less b c k) [ inl m ↦ inl (omega arith) | inr m ↦ inl (let e = m.0 in omega arith) ]
   | inr l ↦ elim (of_less b c k) [ inl m ↦ inl (let e = l.0 in omega arith) | inr m ↦ inr (l.0 ∙ m.0, let f = l.1 in let g = m.1 in omega arith) ]
 ])
 
+-- the least corners of the vertices
 abbrev pub firsts : List Cone → List Corner
 firsts cones = map (λ (cone : Cone). cone.first) cones
 
+-- the tail of an ascending list is ascending
 pub ascending_tail : (x : Cone) (rest : List Cone) → AreAscending (firsts (x ∷ rest)) → AreAscending (firsts rest)
 ascending_tail x [] a = tt
 ascending_tail x (y ∷ rest) a = a.1
 
+-- the head of an ascending list is less than all after it
 pub ascending_less : (x : Cone) (rest : List Cone) → AreAscending (firsts (x ∷ rest)) → (e : Corner) → cycles.IsIn e (firsts rest) → corner_cmp x.first e ≡ Less
 ascending_less x [] a e h = absurd h
 ascending_less x (y ∷ rest) a e h = elim h [
@@ -51,6 +55,7 @@ ascending_less x (y ∷ rest) a e h = elim h [
 ]
 
 module _ (s : GluedPolygons) (surface : IsSurface s) where
+  -- an item of the list is a vertex
   pub cone_at : (cones : List Cone) (c : Cone) → AllByRecursion (IsVertex s) cones → cycles.IsIn c cones → IsVertex s c
   cone_at [] c all i = absurd i
   cone_at (x ∷ cones) c all i = elim i [ inl e ↦ subst (IsVertex s) (sym e) all.0 | inr j ↦ cone_at cones c all.1 j ]
@@ -118,6 +123,7 @@ module _ (s : GluedPolygons) (surface : IsSurface s) where
     named = λ i l. refl;
   }
 
+  -- the number of polygons, vertices and edges is even
   pub has_even_sum : (cones : List Cone) → AreVertices s cones → HasEvenSum s cones
   has_even_sum cones a =
       let half = low-half s surface in

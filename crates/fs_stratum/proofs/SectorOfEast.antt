@@ -19,6 +19,7 @@ use Rattle.fs_stratum.proofs.AxisSigns as axis
 
 -- ---- a strictly convex corner by the signs of y and of x, before and after
 
+-- which signs a strictly convex corner has where one of its sides is along the first axis
 pub record HasConvexSigns (bv bh av ah : Ordering) : Type 0 where
   pub from_east : bv ≡ Equal → bh ≡ Greater → av ≡ Greater
   pub from_west : bv ≡ Equal → bh ≡ Less → av ≡ Less
@@ -37,6 +38,7 @@ east_by_signs Less h = false
 abbrev pub held_by_signs : Ordering → Ordering → Ordering → Ordering → Bool
 held_by_signs bv bh av ah = not (raised_by_signs bv bh) && not (raised_by_signs av ah)
 
+-- the boundary passes from the lower half to the upper, by the signs of y and x of both sides
 abbrev pub rise_by_signs : Ordering → Ordering → Ordering → Ordering → Bool
 rise_by_signs bv bh av ah = upper_by_signs (ordering_reverse bv) (ordering_reverse bh) && upper_by_signs av ah
 
@@ -70,6 +72,7 @@ counted_straight Equal Less = refl
 
 -- ---- the same for vectors
 
+-- the vector is along (1,0)
 abbrev pub is_east : ℕ → V2 → Bool
 is_east d v = east_by_signs (sign d v.y) (sign d v.x)
 
@@ -95,6 +98,7 @@ module _ {d : ℕ} (radicand : IsRadicand d) where
       go Equal Greater h = refl
 
   module _ (before after : V2) (convex : IsPositive d (cross d before after)) where
+    -- a strictly convex corner has such signs
     pub convex_signs : HasConvexSigns (sign d before.y) (sign d before.x) (sign d after.y) (sign d after.x)
     convex_signs =
         let n = radicand_no_square radicand in
@@ -138,6 +142,7 @@ module _ {d : ℕ} (radicand : IsRadicand d) where
           ∙ (λ i. one_if (not (is_raised d before)) + one_if (east_by_signs (sym same_y i) (sym same_x i))))
 
   module _ (before after : V2) (convex : IsPositive d (cross d before after)) where
+    -- the sector of the corner holds (1,0)
     abbrev Holds : Type 0
     Holds = InSector (quadratic d) (IsPositive d) (vector_of after) (vector_of (vector_neg before)) (unit_vector (quadratic d))
 

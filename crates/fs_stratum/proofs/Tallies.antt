@@ -15,10 +15,12 @@ abbrev pub tally : {X : Type 0} → (X → Bool) → List X → ℕ
 tally q [] = 0
 tally q (x ∷ xs) = one_if (q x) + tally q xs
 
+-- the number in two lists is the sum
 pub tally-append : {X : Type 0} (q : X → Bool) (xs ys : List X) → tally q (xs ++ ys) ≡ tally q xs + tally q ys
 tally-append q [] ys = omega arith
 tally-append q (x ∷ xs) ys = let e = tally-append q xs ys in omega arith
 
+-- tests that agree on a list pass as often
 pub tally-agree : {X : Type 0} (p q : X → Bool) (xs : List X) → ((x : X) → IsIn x xs → p x ≡ q x) → tally p xs ≡ tally q xs
 tally-agree p q [] h = refl
 tally-agree p q (x ∷ xs) h =
@@ -65,9 +67,9 @@ tally-not q (x ∷ xs) =
 
 -- where exactly one of each pair passes the test, half of the items pass it
 pub tally-half : {X : Type 0} (q : X → Bool) {f : X → X} (xs : List X) → IsDistinct xs → Pairs f xs → ((x : X) → IsIn x xs → q (f x) ≡ not (q x)) → tally q xs + tally q xs ≡ length xs
-tally-half q {f} xs distinct pairs turns =
+tally-half q {f} xs distinct pairs flips =
     let one = (permutes_undone f f xs pairs.inside pairs.back).one_to_one in
-    let high = tally-at_most q (λ x. not (q x)) f xs xs distinct (λ x i e. (pairs.inside x i, ap not (turns x i) ∙ not-not (q x) ∙ e)) one in
-    let low = tally-at_most (λ x. not (q x)) q f xs xs distinct (λ x i e. (pairs.inside x i, turns x i ∙ e)) one in
+    let high = tally-at_most q (λ x. not (q x)) f xs xs distinct (λ x i e. (pairs.inside x i, ap not (flips x i) ∙ not-not (q x) ∙ e)) one in
+    let low = tally-at_most (λ x. not (q x)) q f xs xs distinct (λ x i e. (pairs.inside x i, flips x i ∙ e)) one in
     let sum = tally-not q xs in
     omega arith

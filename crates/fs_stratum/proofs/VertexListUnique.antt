@@ -17,9 +17,11 @@ use Rattle.fs_stratum.proofs.Parity.{less_trans, firsts, ascending_tail, ascendi
 
 -- ---- the order of corners is total
 
+-- no corner is less than itself
 pub not_less_itself : (a : Corner) → corner_cmp a a ≡ Less → ⊥
 not_less_itself a h = elim (of_less a a h) [ inl l ↦ omega arith | inr k ↦ let l = k.1 in omega arith ]
 
+-- of two corners at most one is less than the other
 pub not_less_both_ways : (a b : Corner) → corner_cmp a b ≡ Less → corner_cmp b a ≡ Less → ⊥
 not_less_both_ways a b h k = not_less_itself a (less_trans a b a h k)
 

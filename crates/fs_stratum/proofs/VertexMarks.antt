@@ -58,6 +58,7 @@ not_false : (b : Bool) → not b ≡ true → b ≡ false
 not_false true e = cc
 not_false false e = refl
 
+-- with one more mark fewer corners are without one
 pub unmarked_falls : (polygons : List (List Side)) (c : Corner) (now more : List (List Bool)) → HasSide polygons c → is_marked now c ≡ false → MarksCorner c now more → unmarked polygons more < unmarked polygons now
 unmarked_falls polygons c now more h free m =
     tally-falls (λ e. not (is_marked now e)) (λ e. not (is_marked more e)) (all_sides polygons) c (in_all_sides polygons c h)
@@ -79,10 +80,12 @@ pub record MarksVertexUpTo (s : GluedPolygons) (first : Corner) (old now : List 
   pub start : IsTrue (is_marked now first) ⊎ (first ≡ c)
   pub count : IsCount (λ e. (IsTrue (is_marked now e) × AreOneVertex s.polygons first e) × HoldsEast s e) (all_sides s.polygons) k
 
+-- a test isn't both true and false
 pub not_both : {b : Bool} → b ≡ true → b ≡ false → ⊥
 not_both e f = let both : true ≡ false = sym e ∙ f in cc
 
 module _ (s : GluedPolygons) (first : Corner) (old : List (List Bool)) (fresh : (e : Corner) → AreOneVertex s.polygons first e → is_marked old e ≡ false) where
+  -- before the first mark
   pub vertex_marks_none : Covers s.polygons old → MarksVertexUpTo s first old old first 0
   vertex_marks_none covers = record {
     covers = covers;
@@ -95,9 +98,11 @@ module _ (s : GluedPolygons) (first : Corner) (old : List (List Bool)) (fresh : 
   }
 
   module _ (surface : IsSurface s) (has : HasSide s.polygons first) where
+    -- corner c exists
     pub has_corner : (now : List (List Bool)) (c : Corner) (k : ℕ) → MarksVertexUpTo s first old now c k → HasSide s.polygons c
     has_corner now c k r = has_one_vertex s.polygons surface.glued first c has r.here
 
+    -- the count is at most 1,024
     pub count_few : (now : List (List Bool)) (c : Corner) (k : ℕ) → MarksVertexUpTo s first old now c k → k ≤ 1024
     count_few now c k r =
         let l = count_at_most _ (all_sides s.polygons) k r.count in
@@ -105,6 +110,7 @@ module _ (s : GluedPolygons) (first : Corner) (old : List (List Bool)) (fresh : 
         let f = surface.sides in
         omega arith
 
+    -- corner c becomes marked, and its next corner follows
     pub vertex_marks_more : (now more : List (List Bool)) (c e : Corner) (k n : ℕ) → MarksVertexUpTo s first old now c k → is_marked now c ≡ false → MarksCorner c now more → IsNextCorner s.polygons c e
         → (HoldsEast s c × (n ≡ suc k)) ⊎ ((¬ HoldsEast s c) × (n ≡ k)) → MarksVertexUpTo s first old more e n
     vertex_marks_more now more c e k n r free m t counted =
@@ -153,12 +159,14 @@ module _ (s : GluedPolygons) (first : Corner) (old : List (List Bool)) (fresh : 
       all_marked_round : (e : Corner) → AreOneVertex s.polygons first e → IsTrue (is_marked now e)
       all_marked_round e o = marked_along o.0 first e has (one_vertex_self s.polygons first) (elim r.start [ inl a ↦ a | inr b ↦ ap (is_marked now) b ∙ met ]) o.1
 
+      -- where c is marked already, the corners of the vertex are marked
       pub vertex_marked : MarksVertex s.polygons first old now
       vertex_marked = record {
         covers = r.covers;
         marked = λ e. (r.sound e, (λ h. elim h [ inl a ↦ r.kept e a | inr o ↦ all_marked_round e o ]));
       }
 
+      -- where c is marked already, k is the cone number
       pub vertex_counted : IsConeNumber s first k
       vertex_counted = count_same _ _ (all_sides s.polygons) k (λ e i p. (p.0.1, p.1)) (λ e i q. ((all_marked_round e q.0, q.0), q.1)) r.count
 
@@ -179,18 +187,21 @@ module _ (s : GluedPolygons) (surface : IsSurface s) (c e : Corner) (has : HasSi
   next_read : (w : V2) (b : Bool) → IfSome (at_side s.polygons e) (λ side. w ≡ side.vector) → b ≡ is_raised d w → b ≡ is_ray_raised s (next s.polygons c)
   next_read w b side is = read e w b there side is ∙ ap (is_ray_raised s) (next_is s.polygons c e t)
 
+  -- the side at c isn't raised and the one at the next corner is: c holds (1,0)
   pub held_read : (v w : V2) (a b : Bool) → IfSome (at_side s.polygons c) (λ side. v ≡ side.vector) → a ≡ is_raised d v → a ≡ false
       → IfSome (at_side s.polygons e) (λ side. w ≡ side.vector) → b ≡ is_raised d w → b ≡ true → HoldsEast s c
   held_read v w a b side_c is_a low side_e is_b high =
       holds_from_rays s surface c has
       ((λ i. not (sym (read c v a has side_c is_a) i) && sym (next_read w b side_e is_b) i) ∙ (λ i. not (low i) && high i))
 
+  -- the side at c is raised: c doesn't hold (1,0)
   pub raised_read : (v : V2) (a : Bool) → IfSome (at_side s.polygons c) (λ side. v ≡ side.vector) → a ≡ is_raised d v → a ≡ true → ¬ HoldsEast s c
   raised_read v a side is high held =
       let both = rays_from_holds s surface c has held in
       let up : is_ray_raised s c ≡ true = sym (read c v a has side is) ∙ high in
       first_false (is_ray_raised s c) (is_ray_raised s (next s.polygons c)) both up
 
+  -- the side at the next corner isn't raised: c doesn't hold (1,0)
   pub lowered_read : (w : V2) (b : Bool) → IfSome (at_side s.polygons e) (λ side. w ≡ side.vector) → b ≡ is_raised d w → b ≡ false → ¬ HoldsEast s c
   lowered_read w b side is low held =
       let both = rays_from_holds s surface c has held in

@@ -20,6 +20,7 @@ partner_or c (Some side) = side.partner
 abbrev pub next : List (List Side) → Corner → Corner
 next polygons c = partner_or c (at_side polygons (side_before polygons c))
 
+-- the next corner is the value of `next`
 pub next_is : (polygons : List (List Side)) (c e : Corner) → IsNextCorner polygons c e → e ≡ next polygons c
 next_is polygons c e t = sym t.is ∙ sym (ap (partner_or c) t.there)
 
@@ -27,6 +28,7 @@ is_next_by : (polygons : List (List Side)) (c : Corner) (o : Option Side) → at
 is_next_by polygons c None e h = cc
 is_next_by polygons c (Some side) e h = record { side = side; there = e; is = refl }
 
+-- the value of `next` is the next corner
 pub is_next_corner : (polygons : List (List Side)) (c : Corner) → HasSide polygons c → IsNextCorner polygons c (next polygons c)
 is_next_corner polygons c h = is_next_by polygons c (at_side polygons (side_before polygons c)) refl (has_before polygons c h)
 
@@ -38,6 +40,7 @@ pub ahead_is : (polygons : List (List Side)) (n : ℕ) (c e : Corner) → IsNthN
 ahead_is polygons zero c e h = sym h
 ahead_is polygons (suc n) c e (mid, t, h) = ahead_is polygons n mid e h ∙ ap (ahead polygons n) (next_is polygons c mid t)
 
+-- corners of one vertex are of one cycle of `next`
 pub leads_of : (polygons : List (List Side)) (c e : Corner) → AreOneVertex polygons c e → LeadsTo (next polygons) c e
 leads_of polygons c e (n, t) = (n, sym (ahead_is polygons n c e t))
 
@@ -47,24 +50,30 @@ nth_next-append polygons (suc n) m c e f (mid, t, h) k =
     let same : suc (n + m) ≡ suc n + m = omega arith in
     subst (λ n. IsNthNextCorner polygons n c f) same (mid, t, nth_next-append polygons n m mid e f h k)
 
+-- a corner is of its own vertex
 pub one_vertex_self : (polygons : List (List Side)) (c : Corner) → AreOneVertex polygons c c
 one_vertex_self polygons c = (0, refl)
 
+-- being of one vertex is transitive
 pub one_vertex_trans : (polygons : List (List Side)) (c e f : Corner) → AreOneVertex polygons c e → AreOneVertex polygons e f → AreOneVertex polygons c f
 one_vertex_trans polygons c e f h k = (h.0 + k.0, nth_next-append polygons h.0 k.0 c e f h.1 k.1)
 
 module _ (polygons : List (List Side)) (glued : IsGluing polygons) where
+  -- the next corner exists
   pub has_next : (c : Corner) → HasSide polygons c → HasSide polygons (next polygons c)
   has_next c h = has_next_corner polygons c (next polygons c) glued (is_next_corner polygons c h)
 
+  -- the n-th corner after c exists
   pub has_ahead : (n : ℕ) (c : Corner) → HasSide polygons c → HasSide polygons (ahead polygons n c)
   has_ahead zero c h = h
   has_ahead (suc n) c h = has_ahead n (next polygons c) (has_next c h)
 
+  -- it is n steps after c
   pub is_nth_next_ahead : (n : ℕ) (c : Corner) → HasSide polygons c → IsNthNextCorner polygons n c (ahead polygons n c)
   is_nth_next_ahead zero c h = refl
   is_nth_next_ahead (suc n) c h = (next polygons c, is_next_corner polygons c h, is_nth_next_ahead n (next polygons c) (has_next c h))
 
+  -- the next corner is of the same vertex
   pub one_vertex_next : (c e : Corner) → HasSide polygons e → AreOneVertex polygons c e → AreOneVertex polygons c (next polygons e)
   one_vertex_next c e h k = one_vertex_trans polygons c e (next polygons e) k (1, (next polygons e, is_next_corner polygons e h, refl))
 
@@ -79,9 +88,11 @@ module _ (polygons : List (List Side)) (glued : IsGluing polygons) where
     one_to_one = λ c e i j. next_one_to_one c e (all_sides_in polygons c i) (all_sides_in polygons e j);
   }
 
+  -- the corners of a vertex exist
   pub has_one_vertex : (c e : Corner) → HasSide polygons c → AreOneVertex polygons c e → HasSide polygons e
   has_one_vertex c e h k = all_sides_in polygons e (leads_in same_corner permutes c e (in_all_sides polygons c h) (leads_of polygons c e k))
 
+  -- corners of one cycle of `next` are of one vertex
   pub one_vertex_of : (c e : Corner) → HasSide polygons c → LeadsTo (next polygons) c e → AreOneVertex polygons c e
   one_vertex_of c e h (n, is) = (n, subst (IsNthNextCorner polygons n c) is (is_nth_next_ahead n c h))
 

@@ -36,16 +36,19 @@ wrong_equal e = cc
 wrong_greater : Greater ≡ Less → ⊥
 wrong_greater e = cc
 
+-- a comes before b: by polygon, then by side
 abbrev Precedes : Corner → Corner → Type 0
 Precedes a b = (a.polygon < b.polygon) ⊎ ((a.polygon ≡ b.polygon) × (a.side < b.side))
 
 then_ordering : (a b : Corner) (p q : Ordering) → p ≡ nat_cmp a.polygon b.polygon → q ≡ nat_cmp a.side b.side → corner_cmp a b ≡ ordering_then p q
 then_ordering a b p q e f = λ i. ordering_then (sym e i) (sym f i)
 
+-- a corner that comes before another is less
 pub less_of : (a b : Corner) → Precedes a b → corner_cmp a b ≡ Less
 less_of a b (inl l) = then_ordering a b Less (nat_cmp a.side b.side) (nat_cmp_is a.polygon b.polygon Less l) refl
 less_of a b (inr h) = then_ordering a b Equal Less (nat_cmp_is a.polygon b.polygon Equal h.0) (nat_cmp_is a.side b.side Less h.1)
 
+-- a corner that is less comes before
 pub of_less : (a b : Corner) → corner_cmp a b ≡ Less → Precedes a b
 of_less a b h = elim (cases_order a.polygon b.polygon) [
   | inl e ↦ elim (cases_order a.side b.side) [
@@ -82,6 +85,7 @@ to_row e i n h = less_of e (corner (i + 1) 0) (elim (of_less e (corner i n) h) [
 
 -- ---- lists of vertices
 
+-- a list that ascends up to a greater corner ascends with it
 pub ascending_push : (cones : List Cone) (cone : Cone) → AreAscending (map (λ (c : Cone). c.first) cones) → AllByRecursion (λ c. corner_cmp c.first cone.first ≡ Less) cones
     → AreAscending (map (λ (c : Cone). c.first) (cones ++ cone ∷ []))
 ascending_push [] cone h a = tt
@@ -93,6 +97,7 @@ module _ (s : GluedPolygons) where
   abbrev pub IsListed : List Cone → Corner → Type 0
   IsListed cones e = (cone : Cone) × Contains cones cone × AreOneVertex s.polygons cone.first e
 
+  -- before the first corner no vertex is found
   pub found_none : (marks : List (List Bool)) → AreUnmarked s.polygons marks → AreFoundBefore s (corner 0 0) marks []
   found_none marks u = record {
     covers = u.covers;
@@ -103,9 +108,11 @@ module _ (s : GluedPolygons) where
     passed = λ e has h. elim (of_less e (corner 0 0) h) [ inl l ↦ absurd (omega arith) | inr k ↦ let l = k.1 in absurd (omega arith) ];
   }
 
+  -- the same for equal marks and equal lists
   pub found_same : (c : Corner) {marks more : List (List Bool)} {cones others : List Cone} → more ≡ marks → others ≡ cones → AreFoundBefore s c marks cones → AreFoundBefore s c more others
   found_same c {marks} {more} {cones} {others} e f found = subst (λ x. AreFoundBefore s c more x) (sym f) (subst (λ x. AreFoundBefore s c x cones) (sym e) found)
 
+  -- a marked corner is of a vertex that was found
   pub found_seen : (i j : ℕ) (marks : List (List Bool)) (cones : List Cone) → AreFoundBefore s (corner i j) marks cones → is_marked marks (corner i j) ≡ true → AreFoundBefore s (corner i (j + 1)) marks cones
   found_seen i j marks cones f seen = record {
     covers = f.covers;
@@ -116,6 +123,7 @@ module _ (s : GluedPolygons) where
     passed = λ e has h. elim (next_cases e i j h) [ inl l ↦ f.passed e has l | inr same ↦ ap (is_marked marks) (sym same) ∙ seen ];
   }
 
+  -- after the last corner of a polygon comes the first of the next
   pub found_row : (i n : ℕ) (marks : List (List Bool)) (cones : List Cone) → AreFoundBefore s (corner i n) marks cones → IfSome (slice_get s.polygons i) (λ polygon. n ≡ length polygon)
       → AreFoundBefore s (corner (i + 1) 0) marks cones
   found_row i n marks cones f is = record {
@@ -137,6 +145,7 @@ module _ (s : GluedPolygons) where
     ]));
   }
 
+  -- side j of polygon i exists
   pub has_in_row : (i j n : ℕ) → i < length s.polygons → IfSome (slice_get s.polygons i) (λ polygon. n ≡ length polygon) → j < n → HasSide s.polygons (corner i j)
   has_in_row i j n l is m =
       let r = value_of (slice_get s.polygons i) (some_of_inside s.polygons i l) in
@@ -144,6 +153,7 @@ module _ (s : GluedPolygons) where
       subst (λ o. IsSome (option_and_then (λ (polygon : List Side). slice_get polygon j) o)) (sym r.is) (some_of_inside r.value j (omega arith))
 
   module _ (surface : IsSurface s) where
+    -- where a corner isn't marked, no corner of its vertex is
     pub fresh_of_unmarked : (c : Corner) (marks : List (List Bool)) (cones : List Cone) → HasSide s.polygons c → ((e : Corner) → (IsTrue (is_marked marks e) → IsListed cones e) × (IsListed cones e → IsTrue (is_marked marks e)))
         → is_marked marks c ≡ false → (e : Corner) → AreOneVertex s.polygons c e → is_marked marks e ≡ false
     fresh_of_unmarked c marks cones has marked free e o = elim (cases_Bool (is_marked marks e)) [
@@ -153,6 +163,7 @@ module _ (s : GluedPolygons) where
       | inr h ↦ h
     ]
 
+    -- a corner that isn't marked is the least of a new vertex
     pub found_new : (i j k : ℕ) (marks more : List (List Bool)) (cones : List Cone) → HasSide s.polygons (corner i j) → AreFoundBefore s (corner i j) marks cones → is_marked marks (corner i j) ≡ false
         → IsConeNumber s (corner i j) k → MarksVertex s.polygons (corner i j) marks more → AreFoundBefore s (corner i (j + 1)) more (cones ++ (record { first = corner i j; k = k }) ∷ [])
     found_new i j k marks more cones has f free number m =
@@ -198,5 +209,6 @@ module _ (s : GluedPolygons) where
         let l = within_by s.polygons e.polygon st.polygon st.is in
         f.passed e has (less_of e (corner n 0) (inl (omega arith)))
 
+    -- after the last polygon all vertices are found
     pub found_all : AreVertices s cones
     found_all = record { each = f.each; ascending = f.ascending; all = λ c has. (f.marked c).0 (all_marked c has) }

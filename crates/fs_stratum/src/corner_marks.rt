@@ -1,3 +1,5 @@
+// Marks on the corners of a surface.
+
 ghost use Rattle.std.specs.Prelude.{◌≡◌, IfOk, length};
 ghost use Rattle.fs_gluing.specs.Polygons.{HasSide};
 ghost use Rattle.fs_gluing.specs.Surface.{GluedPolygons};

@@ -9,9 +9,11 @@ use Rattle.fs_plane.specs.declared.corners.Corner.{Corner}
 use Rattle.fs_plane.specs.declared.vector.V2.{V2}
 use Rattle.fs_plane.specs.Vector.{vector_neg}
 
+-- the test of two numbers: both parts are equal
 abbrev pub same_number : Quadratic → Quadratic → Bool
 same_number a b = int_eq a.p b.p && int_eq a.q b.q
 
+-- the test of two vectors: both coordinates are equal
 abbrev pub same_vector : V2 → V2 → Bool
 same_vector a b = same_number a.x b.x && same_number a.y b.y
 
@@ -35,12 +37,14 @@ true_from_not_false false e = cc
 pub differ_from_ne : (a b : V2) (r : Bool) → r ≡ not (same_vector a b) → r ≡ true → a ≢ b
 differ_from_ne a b r is e = (Decides-not _ (Decides-same_vector a b)).0 (sym is ∙ e)
 
+-- where `!=` is false, the vectors are equal
 pub same_from_ne : (a b : V2) (r : Bool) → r ≡ not (same_vector a b) → r ≡ false → a ≡ b
 same_from_ne a b r is e = (Decides-same_vector a b).0 (true_from_not_false _ (sym is ∙ e))
 
 neg-neg : (a : Quadratic) → neg (neg a) ≡ a
 neg-neg a = ap (λ z. record { p = z; q = neg_ℤ (neg_ℤ a.q) }) (neg_ℤ-neg_ℤ a.p) ∙ ap (λ z. record { p = a.p; q = z }) (neg_ℤ-neg_ℤ a.q)
 
+-- the opposite of the opposite is the vector
 pub vector_neg-vector_neg : (a : V2) → vector_neg (vector_neg a) ≡ a
 vector_neg-vector_neg a = ap (λ x. record { x = x; y = neg (neg a.y) }) (neg-neg a.x) ∙ ap (λ y. record { x = a.x; y = y }) (neg-neg a.y)
 
@@ -54,11 +58,14 @@ Decides-same_corner a b = Decides-like _
     (λ e. (ap (λ (c : Corner). c.polygon) e, ap (λ (c : Corner). c.side) e))
     (Decides-and _ _ (Decides-eqb a.polygon b.polygon) (Decides-eqb a.side b.side))
 
+-- where `==` is true, the corners are equal
 pub one_corner : (a b : Corner) (r : Bool) → r ≡ same_corner a b → r ≡ true → a ≡ b
 one_corner a b r is e = (Decides-same_corner a b).0 (sym is ∙ e)
 
+-- false isn't true
 pub false_not_true : false ≡ true → ⊥
 false_not_true e = cc
 
+-- where `==` is false, the corners differ
 pub two_corners : (a b : Corner) (r : Bool) → r ≡ same_corner a b → r ≡ false → a ≢ b
 two_corners a b r is e same = false_not_true (sym e ∙ is ∙ (Decides-same_corner a b).1 same)

@@ -8,9 +8,11 @@ use Rattle.fs_quadratic.proofs.Firsts.{All-append, first_of_front, first_of_back
 use Rattle.fs_gluing.specs.declared.faults.BuildStop.{BuildStop}
 use Rattle.fs_gluing.specs.TestsInOrder.{PassesBefore, IsFirstStop}
 
+-- no test comes before the whole list
 pub passes_before_none : {X : Type 0} (P : X → Type 0) (tests rest : List X) → tests ≡ rest → PassesBefore P tests rest
 passes_before_none P tests rest e = record { before = []; whole = e; passed = tt }
 
+-- a list of tests after a prefix passes too
 pub passes_before_more : {X : Type 0} (P : X → Type 0) (tests xs rest : List X) → PassesBefore P tests (xs ++ rest) → AllByRecursion P xs → PassesBefore P tests rest
 passes_before_more P tests xs rest b a = record {
   before = b.before ++ xs;
@@ -18,9 +20,11 @@ passes_before_more P tests xs rest b a = record {
   passed = All-append P b.before xs b.passed a;
 }
 
+-- the same for an equal rest
 pub passes_before_same : {X : Type 0} (P : X → Type 0) (tests rest others : List X) → rest ≡ others → PassesBefore P tests rest → PassesBefore P tests others
 passes_before_same P tests rest others e b = subst (PassesBefore P tests) e b
 
+-- where nothing is left, all tests pass
 pub all_from_passes_before : {X : Type 0} (P : X → Type 0) (tests : List X) → PassesBefore P tests [] → AllByRecursion P tests
 all_from_passes_before P tests b = subst (AllByRecursion P) (sym (b.whole ∙ append-nil b.before)) b.passed
 
@@ -32,6 +36,7 @@ first_stop_of_rest P tests rest stop e b a = record {
   is = a.is;
 }
 
+-- a first test that fails gives the stop
 pub first_stop_of_head : {X : Type 0} (P : X → Type 0) (x : X) (rest : List X) (stop : X → BuildStop) (e : BuildStop) → e ≡ stop x → ¬ P x → IsFirstStop P (x ∷ rest) stop e
 first_stop_of_head P x rest stop e is fails = record {
   test = x;
@@ -39,12 +44,15 @@ first_stop_of_head P x rest stop e is fails = record {
   is = is;
 }
 
+-- the first stop of a prefix is that of the whole list
 pub first_stop_of_prefix : {X : Type 0} (P : X → Type 0) (xs ys : List X) (stop : X → BuildStop) (e : BuildStop) → IsFirstStop P xs stop e → IsFirstStop P (xs ++ ys) stop e
 first_stop_of_prefix P xs ys stop e a = record { test = a.test; first = first_of_front P xs ys a.test a.first; is = a.is }
 
+-- the first stop of a mapped list
 pub first_stop_of_map : {X Y : Type 0} (f : X → Y) (P : Y → Type 0) (xs : List X) (stop : Y → BuildStop) (e : BuildStop) → IsFirstStop (λ x. P (f x)) xs (λ x. stop (f x)) e → IsFirstStop P (map f xs) stop e
 first_stop_of_map f P xs stop e a = record { test = f a.test; first = first_of_map f P xs a.test a.first; is = a.is }
 
+-- a weaker property holds of all items too
 pub All-weaker : {X : Type 0} (P Q : X → Type 0) → ((x : X) → P x → Q x) → (xs : List X) → AllByRecursion P xs → AllByRecursion Q xs
 All-weaker P Q w [] a = tt
 All-weaker P Q w (x ∷ xs) a = (w x a.0, All-weaker P Q w xs a.1)

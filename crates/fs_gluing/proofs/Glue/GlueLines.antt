@@ -29,44 +29,53 @@ no_glue = record { line = 0; one = record { polygon = 0; side = 0 }; two = recor
 -- ---- one line
 
 module _ (polygons : List (List V2)) (earlier : List Glue) (g : Glue) where
+  -- e is the stop of the first test of the line that fails
   abbrev Stops : BuildStop → Type 0
   Stops e = IsFirstStop (PassesLine polygons) (line_tests earlier (g ∷ [])) line_stop e
 
+  -- a side that doesn't exist gives `NoSuchSide`
   pub absent_fails : ¬ (HasSide polygons g.one × HasSide polygons g.two) → Stops (stops.Fault (faults.NoSuchSide g.line))
   absent_fails absent = first_stop_of_head (PassesLine polygons) (sides_exist g) _ line_stop _ refl absent
 
   present_then : HasSide polygons g.one × HasSide polygons g.two → PassesBefore (PassesLine polygons) (line_tests earlier (g ∷ [])) (glued_once earlier g ∷ sides_opposite g ∷ [])
   present_then present = record { before = sides_exist g ∷ []; whole = refl; passed = (present, tt) }
 
+  -- a side that is glued again gives `GluedTwice`
   pub twice_fails : HasSide polygons g.one × HasSide polygons g.two → ¬ PassesLine polygons (glued_once earlier g) → Stops (stops.Fault (faults.GluedTwice g.line))
   twice_fails present twice =
       first_stop_of_rest _ _ _ _ _ (present_then present) (first_stop_of_head (PassesLine polygons) (glued_once earlier g) _ line_stop _ refl twice)
 
-  single_then : HasSide polygons g.one × HasSide polygons g.two → PassesLine polygons (glued_once earlier g)
+  glued_once_then : HasSide polygons g.one × HasSide polygons g.two → PassesLine polygons (glued_once earlier g)
       → PassesBefore (PassesLine polygons) (line_tests earlier (g ∷ [])) (sides_opposite g ∷ [])
-  single_then present single = passes_before_more _ _ (glued_once earlier g ∷ []) _ (present_then present) (single, tt)
+  glued_once_then present single = passes_before_more _ _ (glued_once earlier g ∷ []) _ (present_then present) (single, tt)
 
+  -- sides that aren't opposite give `NotOpposite`
   pub opposite_fails : HasSide polygons g.one × HasSide polygons g.two → PassesLine polygons (glued_once earlier g) → ¬ PassesLine polygons (sides_opposite g) → Stops (stops.Fault (faults.NotOpposite g.line))
   opposite_fails present single other =
-      first_stop_of_rest _ _ _ _ _ (single_then present single) (first_stop_of_head (PassesLine polygons) (sides_opposite g) _ line_stop _ refl other)
+      first_stop_of_rest _ _ _ _ _ (glued_once_then present single) (first_stop_of_head (PassesLine polygons) (sides_opposite g) _ line_stop _ refl other)
 
+  -- a line passes where its three tests do
   pub line_passes : HasSide polygons g.one × HasSide polygons g.two → PassesLine polygons (glued_once earlier g) → PassesLine polygons (sides_opposite g)
       → AllByRecursion (PassesLine polygons) (line_tests earlier (g ∷ []))
   line_passes present single opposite = (present, (single, (opposite, tt)))
 
   -- the sides of a line are glued once where they differ and have no partners yet
-  pub single_by : (p : Corner → Option Corner) → ArePartners earlier p → g.one ≢ g.two → ¬ IsSome (p g.one) → ¬ IsSome (p g.two) → PassesLine polygons (glued_once earlier g)
-  single_by p a differ one two = (differ, (λ h. one (listed_has_partner earlier p g.one a h)), (λ h. two (listed_has_partner earlier p g.two a h)))
+  pub glued_once_by : (p : Corner → Option Corner) → ArePartners earlier p → g.one ≢ g.two → ¬ IsSome (p g.one) → ¬ IsSome (p g.two) → PassesLine polygons (glued_once earlier g)
+  glued_once_by p a differ one two = (differ, (λ h. one (listed_has_partner earlier p g.one a h)), (λ h. two (listed_has_partner earlier p g.two a h)))
 
-  pub not_single_one : (p : Corner → Option Corner) → ArePartners earlier p → IsSome (p g.one) → ¬ PassesLine polygons (glued_once earlier g)
-  not_single_one p a there single = single.1 (listed_from_partner earlier p g.one a there)
+  -- where the first side has a partner already, the test fails
+  pub one_glued_before : (p : Corner → Option Corner) → ArePartners earlier p → IsSome (p g.one) → ¬ PassesLine polygons (glued_once earlier g)
+  one_glued_before p a there single = single.1 (listed_from_partner earlier p g.one a there)
 
-  pub not_single_two : (p : Corner → Option Corner) → ArePartners earlier p → IsSome (p g.two) → ¬ PassesLine polygons (glued_once earlier g)
-  not_single_two p a there single = single.2 (listed_from_partner earlier p g.two a there)
+  -- where the second side has a partner already, the test fails
+  pub two_glued_before : (p : Corner → Option Corner) → ArePartners earlier p → IsSome (p g.two) → ¬ PassesLine polygons (glued_once earlier g)
+  two_glued_before p a there single = single.2 (listed_from_partner earlier p g.two a there)
 
+-- vectors that are read at both sides, the second being the opposite of the first
 pub are_opposite : (a b : Option V2) (v w : V2) → a ≡ Some v → b ≡ Some w → w ≡ vector_neg v → AreOpposite a b
 are_opposite a b v w is_a is_b e = subst (λ o. AreOpposite o b) (sym is_a) (subst (AreOpposite (Some v)) (sym is_b) e)
 
+-- the converse: opposite sides have opposite vectors
 pub vectors_opposite : (a b : Option V2) (v w : V2) → a ≡ Some v → b ≡ Some w → AreOpposite a b → w ≡ vector_neg v
 vectors_opposite a b v w is_a is_b h = let P : Option V2 → Type 0 = AreOpposite (Some v) in subst P is_b (subst (λ o. AreOpposite o b) is_a h)
 
@@ -81,9 +90,10 @@ next_tests : (glues : List Glue) (i : ℕ) (g : Glue) → IsItem glues i g
     → line_tests (take i glues) (drop i glues) ≡ line_tests (take i glues) (g ∷ []) ++ line_tests (take (i + 1) glues) (drop (i + 1) glues)
 next_tests glues i g item =
     let rest : drop i glues ≡ g ∷ drop (i + 1) glues = drop_more glues i g item.inside ∙ ap (λ h. h ∷ drop (i + 1) glues) (sym item.is) in
-    let front : take i glues ++ g ∷ [] ≡ take (i + 1) glues = ap (λ h. take i glues ++ h ∷ []) item.is ∙ sym (take_more glues i g item.inside) in
-    ap (line_tests (take i glues)) rest ∙ ap (λ (gs : List Glue). line_tests (take i glues) (g ∷ []) ++ line_tests gs (drop (i + 1) glues)) front
+    let prefix : take i glues ++ g ∷ [] ≡ take (i + 1) glues = ap (λ h. take i glues ++ h ∷ []) item.is ∙ sym (take_more glues i g item.inside) in
+    ap (line_tests (take i glues)) rest ∙ ap (λ (gs : List Glue). line_tests (take i glues) (g ∷ []) ++ line_tests gs (drop (i + 1) glues)) prefix
 
+-- one more line passes
 pub lines_more : (polygons : List (List V2)) (glues : List Glue) (i : ℕ) (g : Glue) (p q : Corner → Option Corner) → IsItem glues i g → PassesLinesUpTo polygons glues i p
     → AllByRecursion (PassesLine polygons) (line_tests (take i glues) (g ∷ [])) → ArePartners (take i glues ++ g ∷ []) q → PassesLinesUpTo polygons glues (i + 1) q
 lines_more polygons glues i g p q item l a partners = record {
@@ -91,6 +101,7 @@ lines_more polygons glues i g p q item l a partners = record {
   partners = subst (λ gs. ArePartners gs q) (ap (λ h. take i glues ++ h ∷ []) item.is ∙ sym (take_more glues i g item.inside)) partners;
 }
 
+-- the next line fails, and its stop is the first of all lines
 pub line_fails : (polygons : List (List V2)) (glues : List Glue) (i : ℕ) (g : Glue) (p : Corner → Option Corner) (e : BuildStop) → IsItem glues i g → PassesLinesUpTo polygons glues i p
     → IsFirstStop (PassesLine polygons) (line_tests (take i glues) (g ∷ [])) line_stop e → IsFirstStop (PassesLine polygons) (line_tests [] glues) line_stop e
 line_fails polygons glues i g p e item l a =
@@ -98,6 +109,7 @@ line_fails polygons glues i g p e item l a =
 
 -- ---- what holds of all lines
 
+-- what follows from the three tests of a line holds of all lines that pass
 pub lines_hold : (polygons : List (List V2)) (P : Glue → Type 0) → ((earlier : List Glue) (g : Glue) → PassesLine polygons (sides_exist g) → PassesLine polygons (glued_once earlier g) → PassesLine polygons (sides_opposite g) → P g)
     → (earlier glues : List Glue) → AllByRecursion (PassesLine polygons) (line_tests earlier glues) → AllByRecursion P glues
 lines_hold polygons P from earlier [] a = tt
@@ -105,19 +117,23 @@ lines_hold polygons P from earlier (g ∷ glues) a = (from earlier g a.0 a.1.0 a
 
 -- ---- sides that exist, and sides that don't
 
-pub there_by : (polygons : List (List V2)) (g : Glue) (v w : V2) → at_side polygons g.one ≡ Some v → at_side polygons g.two ≡ Some w → HasSide polygons g.one × HasSide polygons g.two
-there_by polygons g v w is_one is_two = (subst IsSome (sym is_one) refl, subst IsSome (sym is_two) refl)
+-- sides whose vectors are read exist
+pub sides_exist_by : (polygons : List (List V2)) (g : Glue) (v w : V2) → at_side polygons g.one ≡ Some v → at_side polygons g.two ≡ Some w → HasSide polygons g.one × HasSide polygons g.two
+sides_exist_by polygons g v w is_one is_two = (subst IsSome (sym is_one) refl, subst IsSome (sym is_two) refl)
 
 none_not_some : {X : Type 0} (o : Option X) → o ≡ None → ¬ IsSome o
 none_not_some None e h = cc
 none_not_some (Some x) e h = cc
 
+-- the first side has no vector
 pub absent_one : (polygons : List (List V2)) (g : Glue) → at_side polygons g.one ≡ None → ¬ (HasSide polygons g.one × HasSide polygons g.two)
 absent_one polygons g e h = none_not_some _ e h.0
 
+-- the second side has no vector
 pub absent_two : (polygons : List (List V2)) (g : Glue) → at_side polygons g.two ≡ None → ¬ (HasSide polygons g.one × HasSide polygons g.two)
 absent_two polygons g e h = none_not_some _ e h.1
 
+-- where `is_some` is false there is no value
 pub not_some : {X : Type 0} (o : Option X) → is_some o ≡ false → ¬ IsSome o
 not_some None e h = cc
 not_some (Some x) e h = cc

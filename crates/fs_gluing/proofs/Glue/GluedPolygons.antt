@@ -28,6 +28,7 @@ row_vectors : (p : Corner → Option Corner) (i j : ℕ) (polygon : List V2) →
 row_vectors p i j [] = refl
 row_vectors p i j (v ∷ polygon) = ap (λ vs. v ∷ vs) (row_vectors p i (j + 1) polygon)
 
+-- the glued polygons have the vectors of the polygons
 pub rows_vectors : (p : Corner → Option Corner) (i : ℕ) (polygons : List (List V2)) → map side_vectors (glued_polygons p i polygons) ≡ polygons
 rows_vectors p i [] = refl
 rows_vectors p i (polygon ∷ polygons) =
@@ -38,6 +39,7 @@ row_length : (p : Corner → Option Corner) (i j : ℕ) (polygon : List V2) → 
 row_length p i j [] = refl
 row_length p i j (v ∷ polygon) = ap (λ n. suc n) (row_length p i (j + 1) polygon)
 
+-- there are as many glued polygons as polygons
 pub rows_length : (p : Corner → Option Corner) (i : ℕ) (polygons : List (List V2)) → length (glued_polygons p i polygons) ≡ length polygons
 rows_length p i [] = refl
 rows_length p i (polygon ∷ polygons) = ap (λ n. suc n) (rows_length p (i + 1) polygons)
@@ -52,6 +54,7 @@ rows_sum p i (polygon ∷ polygons) =
 
 -- ---- the polygons are closed and convex
 
+-- what holds of all items of a mapped list holds of all values of the map
 pub All-from_map : {X Y : Type 0} (f : X → Y) (P : Y → Type 0) (xs : List X) → AllByRecursion P (map f xs) → AllByRecursion (λ x. P (f x)) xs
 All-from_map f P [] a = tt
 All-from_map f P (x ∷ xs) a = (a.0, All-from_map f P xs a.1)
@@ -135,6 +138,7 @@ row_holds P i j (x ∷ polygon) (suc k) a h e =
     let same : j + 1 + k ≡ j + suc k = omega arith in
     subst (λ n. P (record { polygon = i; side = n })) same (row_holds P i (j + 1) polygon k a h.1 e)
 
+-- what holds of all sides of the polygons from i on holds of side j of polygon i + k
 pub rows_hold : (P : Corner → Type 0) (i : ℕ) (polygons : List (List V2)) (k j : ℕ) (a : V2) → AllByRecursion P (sides_from i polygons)
     → option_and_then (λ polygon. slice_get polygon j) (slice_get polygons k) ≡ Some a → P (record { polygon = i + k; side = j })
 rows_hold P i [] k j a h e = cc
@@ -174,6 +178,7 @@ some_opposite v None h = absurd h
 some_opposite v (Some w) h = ap (λ x. Some x) h
 
 module _ (d : ℕ) (polygons : List (List V2)) (glues : List Glue) (p : Corner → Option Corner) (h : IsPaired d polygons glues p) where
+  -- the glued polygons
   abbrev rows : List (List Side)
   rows = glued_polygons p 0 polygons
 
@@ -203,6 +208,7 @@ module _ (d : ℕ) (polygons : List (List V2)) (glues : List Glue) (p : Corner �
             ∙ ap (λ k. Some (record { vector = vector_neg v; partner = k })) back_is;
       }
 
+  -- every side of the glued polygons is glued
   pub rows_are_glued : (c : Corner) (side : Side) → at_side rows c ≡ Some side → IsGlued rows c side
   rows_are_glued c side there =
       let a = image_from (side_of p c) (at_side polygons c) side (sym (at_side_rows p polygons c) ∙ there) in
@@ -211,6 +217,7 @@ module _ (d : ℕ) (polygons : List (List V2)) (glues : List Glue) (p : Corner �
 
   -- ---- the same neighbours by glued sides and by glue lines
 
+  -- polygons that are neighbours by a side are joined by a line
   pub neighbours_joined : (i j : ℕ) → AreNeighbours rows i j → Joins glues i j
   neighbours_joined i j n =
       let a = image_from (side_of p n.corner) (at_side polygons n.corner) n.side (sym (at_side_rows p polygons n.corner) ∙ n.there) in
@@ -232,6 +239,7 @@ module _ (d : ℕ) (polygons : List (List V2)) (glues : List Glue) (p : Corner �
     | inr r ↦ elim r [ inl s ↦ ap p (sym s.0) ∙ a.0.1 ∙ ap Some s.1 | inr t ↦ pair_partner gs c e a.1 t ]
   ]
 
+  -- polygons that are joined by a line are neighbours by a side
   pub joined_neighbours : (i j : ℕ) → Joins glues i j → AreNeighbours rows i j
   joined_neighbours i j k =
       let a = value_of (at_side polygons k.one) (pair_present glues k.one k.two lines_present k.pair) in
@@ -259,9 +267,11 @@ module _ (d : ℕ) (polygons : List (List V2)) (glues : List Glue) (p : Corner �
     lines_glued_of gs there.1 is.1,
   )
 
+  -- the sides on each line are glued to each other
   pub lines_are_glued : AllByRecursion (λ g. AreGlued rows g.one g.two) glues
   lines_are_glued = lines_glued_of glues lines_present h.partners.of_lines
 
+  -- the glued polygons are a surface where they are connected
   pub is_surface : (den : ℤ) → IsRadicand d → pos 0 <ℤ den → 0 < length polygons → length polygons ≤ 256 → sum_by length polygons ≤ 1024
       → ((k : ℕ) → k < length rows → IsReached (AreNeighbours rows) k) → IsSurface (record { d = d; den = den; polygons = rows })
   is_surface den radicand positive some few sides connected = record {

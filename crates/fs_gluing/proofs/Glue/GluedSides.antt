@@ -19,15 +19,18 @@ pub record GluesSidesUpTo (p : Corner → Option Corner) (i : ℕ) (points : Lis
   pub glued : row ++ glued_polygon p i j (drop j points) ≡ glued_polygon p i 0 points
   pub passed : PassesBefore (λ c. IsSome (p c)) (sides_between i 0 (length points)) (sides_between i j (length points - j))
 
+-- the corners of polygon i with these numbers
 abbrev numbered_corners : ℕ → List ℕ → List Corner
 numbered_corners i js = map (λ k. record { polygon = i; side = k }) js
 
 sides_between-more : (i j n : ℕ) → j < n → sides_between i j (n - j) ≡ record { polygon = i; side = j } ∷ sides_between i (j + 1) (n - (j + 1))
 sides_between-more i j n l = ap (numbered_corners i) (range_more j n l)
 
+-- the side c with this vector and the partner that p gives
 abbrev pub side_of : (Corner → Option Corner) → Corner → V2 → Side
 side_of p c a = record { vector = a; partner = unwrap_or (p c) c }
 
+-- one more side gets its partner
 pub glue_more : (p : Corner → Option Corner) (i : ℕ) (points : List V2) (j : ℕ) (row : List Side) (a : V2) (partner : Corner) → IsItem points j a
     → p (record { polygon = i; side = j }) ≡ Some partner → GluesSidesUpTo p i points j row
     → GluesSidesUpTo p i points (j + 1) (row ++ record { vector = a; partner = partner } ∷ [])
@@ -53,6 +56,7 @@ sides_from-more : (polygons : List (List V2)) (i : ℕ) (points : List V2) → I
     → sides_from i (drop i polygons) ≡ sides_between i 0 (length points) ++ sides_from (i + 1) (drop (i + 1) polygons)
 sides_from-more polygons i points item = ap (sides_from i) (drop_more polygons i points item.inside ∙ ap (λ xs. xs ∷ drop (i + 1) polygons) (sym item.is))
 
+-- one more polygon is glued
 pub rows_more : (p : Corner → Option Corner) (polygons : List (List V2)) (i : ℕ) (rows : List (List Side)) (points : List V2) (row : List Side) → IsItem polygons i points
     → row ≡ glued_polygon p i 0 points → AllByRecursion (λ c. IsSome (p c)) (sides_between i 0 (length points)) → GluesPolygonsUpTo p polygons i rows
     → GluesPolygonsUpTo p polygons (i + 1) (rows ++ row ∷ [])
@@ -67,6 +71,7 @@ rows_more p polygons i rows points row item is a w =
       passed = passes_before_more _ _ _ _ (passes_before_same _ _ _ _ (sides_from-more polygons i points item) w.passed) a;
     }
 
+-- a side of the next polygon has no partner, and it is the first of all sides without one
 pub rows_fail : (p : Corner → Option Corner) (polygons : List (List V2)) (i : ℕ) (rows : List (List Side)) (points : List V2) (e : BuildStop) → IsItem polygons i points
     → IsFirstStop (λ c. IsSome (p c)) (sides_between i 0 (length points)) (λ c. stop_of (side_glued c)) e → GluesPolygonsUpTo p polygons i rows
     → IsFirstStop (λ c. IsSome (p c)) (all_sides polygons) (λ c. stop_of (side_glued c)) e

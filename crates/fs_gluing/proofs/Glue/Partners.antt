@@ -58,13 +58,13 @@ put_keeps p q k v s free c e is =
 put_some : (p q : Corner → Option Corner) (k v : Corner) → Puts p q k v → (c e : Corner) → q c ≡ Some e → ((k ≡ c) × (v ≡ e)) ⊎ (p c ≡ Some e)
 put_some p q k v s c e is = elim (put_cases p q k v s c) [ inl h ↦ inl (h.0, let both : Some v ≡ Some e = sym h.1 ∙ is in cc) | inr h ↦ inr (sym h ∙ is) ]
 
-pair_of_front : (xs ys : List Glue) (c e : Corner) → IsPairOf xs c e → IsPairOf (xs ++ ys) c e
-pair_of_front [] ys c e h = absurd h
-pair_of_front (g ∷ xs) ys c e h = elim h [ inl a ↦ inl a | inr r ↦ inr (elim r [ inl b ↦ inl b | inr t ↦ inr (pair_of_front xs ys c e t) ]) ]
+pair_of_prefix : (xs ys : List Glue) (c e : Corner) → IsPairOf xs c e → IsPairOf (xs ++ ys) c e
+pair_of_prefix [] ys c e h = absurd h
+pair_of_prefix (g ∷ xs) ys c e h = elim h [ inl a ↦ inl a | inr r ↦ inr (elim r [ inl b ↦ inl b | inr t ↦ inr (pair_of_prefix xs ys c e t) ]) ]
 
-pair_of_back : (xs ys : List Glue) (c e : Corner) → IsPairOf ys c e → IsPairOf (xs ++ ys) c e
-pair_of_back [] ys c e h = h
-pair_of_back (g ∷ xs) ys c e h = inr (inr (pair_of_back xs ys c e h))
+pair_of_suffix : (xs ys : List Glue) (c e : Corner) → IsPairOf ys c e → IsPairOf (xs ++ ys) c e
+pair_of_suffix [] ys c e h = h
+pair_of_suffix (g ∷ xs) ys c e h = inr (inr (pair_of_suffix xs ys c e h))
 
 partners_push : (done : List Glue) (g : Glue) (p q r : Corner → Option Corner) → ArePartners done p → p g.one ≡ None → p g.two ≡ None → g.one ≢ g.two
     → Puts p q g.one g.two → Puts q r g.two g.one → ArePartners (done ++ g ∷ []) r
@@ -76,10 +76,10 @@ partners_push done g p q r a free_one free_two apart s t =
           (All-weaker (λ h. (p h.one ≡ Some h.two) × (p h.two ≡ Some h.one)) (λ h. (r h.one ≡ Some h.two) × (r h.two ≡ Some h.one)) (λ h b. (keeps _ _ b.0, keeps _ _ b.1)) done a.of_lines)
           ((put_keeps q r g.two g.one t still_free _ _ (put_here p q g.one g.two s), put_here q r g.two g.one t), tt);
       only = λ c e is. elim (put_some q r g.two g.one t c e is) [
-        | inl h ↦ pair_of_back done (g ∷ []) c e (inr (inl h))
+        | inl h ↦ pair_of_suffix done (g ∷ []) c e (inr (inl h))
         | inr h ↦ elim (put_some p q g.one g.two s c e h) [
-          | inl k ↦ pair_of_back done (g ∷ []) c e (inl k)
-          | inr k ↦ pair_of_front done (g ∷ []) c e (a.only c e k)
+          | inl k ↦ pair_of_suffix done (g ∷ []) c e (inl k)
+          | inr k ↦ pair_of_prefix done (g ∷ []) c e (a.only c e k)
         ]
       ];
     }
@@ -95,6 +95,7 @@ back_of_pair (g ∷ glues) p c e a h = elim h [
 pub partner_back : (glues : List Glue) (p : Corner → Option Corner) (c e : Corner) → ArePartners glues p → p c ≡ Some e → p e ≡ Some c
 partner_back glues p c e a is = back_of_pair glues p c e a.of_lines (a.only c e is)
 
+-- a side is glued to another side
 pub pair_other : (glues : List Glue) (c e : Corner) → AllByRecursion (λ g. g.one ≢ g.two) glues → IsPairOf glues c e → e ≢ c
 pair_other [] c e d h = absurd h
 pair_other (g ∷ glues) c e d h = elim h [
@@ -110,6 +111,7 @@ opposite_back (Some v) (Some w) h = sym (ap vector_neg h ∙ vector_neg-vector_n
 opposite_at : (vector : Corner → Option V2) (a b c e : Corner) → a ≡ c → b ≡ e → AreOpposite (vector a) (vector b) → AreOpposite (vector c) (vector e)
 opposite_at vector a b c e at_c at_e h = subst (λ x. AreOpposite (vector x) (vector e)) at_c (subst (λ x. AreOpposite (vector a) (vector x)) at_e h)
 
+-- sides that are glued to each other have opposite vectors
 pub pair_opposite : (vector : Corner → Option V2) (glues : List Glue) (c e : Corner) → AllByRecursion (λ g. AreOpposite (vector g.one) (vector g.two)) glues → IsPairOf glues c e → AreOpposite (vector c) (vector e)
 pair_opposite vector [] c e a h = absurd h
 pair_opposite vector (g ∷ glues) c e a h = elim h [
@@ -153,5 +155,6 @@ listed_by : (glues : List Glue) (p : Corner → Option Corner) (c : Corner) (o :
 listed_by glues p c None is a h = cc
 listed_by glues p c (Some e) is a h = pair_listed glues c e (a.only c e is)
 
+-- a side with a partner is on a line
 pub listed_from_partner : (glues : List Glue) (p : Corner → Option Corner) (c : Corner) → ArePartners glues p → IsSome (p c) → Contains (glued_sides glues) c
 listed_from_partner glues p c a h = listed_by glues p c (p c) refl a h

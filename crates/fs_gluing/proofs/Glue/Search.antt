@@ -65,6 +65,7 @@ false_unless : (b : Bool) → ¬ IsTrue b → b ≡ false
 false_unless true h = absurd (h refl)
 false_unless false h = refl
 
+-- 1 for a mark that is not set
 abbrev weight : Bool → ℕ
 weight b = cond (not b) 1 0
 
@@ -106,6 +107,7 @@ marks_new ks k marks more waiting longer m l fresh =
       count = omega (arith, m.count, count_set more k l fresh, length-append longer (k ∷ []));
     }
 
+-- the polygons of the partners of one more side
 pub partners_more : (sides : List Side) (j : ℕ) (side : Side) → j < length sides → side ≡ get_or sides j side → partner_polygons (take (j + 1) sides) ≡ partner_polygons (take j sides) ++ side.partner.polygon ∷ []
 partners_more sides j side l is =
     ap partner_polygons (take_more sides j side l)
@@ -119,6 +121,7 @@ side_inside n sides j side inside l is =
 
 -- ---- side j is visited after the sides before it; b is the mark of the polygon that its partner is in
 
+-- the polygon was marked before: nothing changes
 pub visit_seen : (sides : List Side) (j : ℕ) (side : Side) (marks before more : List Bool) (waiting longer longest : List ℕ) (b : Bool) → AllByRecursion (λ side. side.partner.polygon < length marks) sides
     → j < length sides → side ≡ get_or sides j side → MarksPolygons (partner_polygons (take j sides)) marks before waiting longer → b ≡ get_or before side.partner.polygon b → b ≡ true
     → more ≡ before → longest ≡ longer → MarksPolygons (partner_polygons (take (j + 1) sides)) marks more waiting longest
@@ -130,6 +133,7 @@ visit_seen sides j side marks before more waiting longer longest b inside l is m
     (marks_seen (partner_polygons (take j sides)) side.partner.polygon marks before waiting longer m
     (get_or_default before side.partner.polygon false b k_inside ∙ sym read ∙ seen))))
 
+-- the polygon wasn't marked: it becomes marked and waits
 pub visit_new : (sides : List Side) (j : ℕ) (side : Side) (marks before more : List Bool) (waiting longer longest : List ℕ) (b : Bool) → AllByRecursion (λ side. side.partner.polygon < length marks) sides
     → j < length sides → side ≡ get_or sides j side → MarksPolygons (partner_polygons (take j sides)) marks before waiting longer → b ≡ get_or before side.partner.polygon b → b ≡ false
     → more ≡ set before side.partner.polygon true → longest ≡ longer ++ side.partner.polygon ∷ [] → MarksPolygons (partner_polygons (take (j + 1) sides)) marks more waiting longest
@@ -176,6 +180,7 @@ search_none polygons n is some =
       closed = λ k j h step. inl (subst (Contains (0 ∷ [])) (marks_first n k h) (Contains-push [] 0));
     }
 
+-- the polygon that a side is glued to
 abbrev partner_polygon : Side → ℕ
 partner_polygon side = side.partner.polygon
 
@@ -257,12 +262,14 @@ partners_inside polygons k polygon n there is glued =
 
 -- ---- the steps of the loop
 
+-- the search before its loop
 pub search_begins : (polygons : List (List Side)) (n : ℕ) (marks : List Bool) (none waiting : List ℕ) → marks ≡ replicate n false → n ≡ length polygons → 0 < length polygons
     → none ≡ [] → waiting ≡ none ++ 0 ∷ [] → Searches polygons (set marks 0 true) waiting
 search_begins polygons n marks none waiting marks_are is some none_is waiting_is =
     subst (λ w. Searches polygons (set marks 0 true) w) (sym (waiting_is ∙ ap (λ w. w ++ 0 ∷ []) none_is))
     (subst (λ m. Searches polygons (set m 0 true) (0 ∷ [])) (sym marks_are) (search_none polygons n is (omega (arith, is, some))))
 
+-- a polygon that waits exists
 pub waits_inside : (polygons : List (List Side)) (k : ℕ) (marks : List Bool) (waiting rest : List ℕ) → waiting ≡ rest ++ k ∷ [] → Searches polygons marks waiting → k < length polygons
 waits_inside polygons k marks waiting rest is s =
     let l = marked_within marks k (s.wait k (subst (λ w. Contains w k) (sym is) (Contains-push rest k))) in
@@ -274,6 +281,7 @@ pub waiting_polygon : (polygons rows : List (List Side)) (k : ℕ) (item polygon
 waiting_polygon polygons rows k item polygon marks waiting rest is s same read polygon_is =
     slice_get_read polygons (length polygons) k item refl (waits_inside polygons k marks waiting rest is s) (read ∙ ap (λ ps. get_or ps k item) same) ∙ ap (λ p. Some p) (sym polygon_is)
 
+-- a visit lowers the number of polygons that wait plus that of polygons without a mark
 pub search_falls : (polygons : List ℕ) (k : ℕ) (marks more : List Bool) (waiting rest longer : List ℕ) → waiting ≡ rest ++ k ∷ [] → MarksPolygons polygons marks more rest longer
     → length longer + count_by not more < length waiting + count_by not marks
 search_falls polygons k marks more waiting rest longer is m = omega (arith, m.count, ap length is, length-append rest (k ∷ []))
@@ -284,6 +292,7 @@ search_falls polygons k marks more waiting rest longer is m = omega (arith, m.co
 abbrev pub ReachesBefore : List (List Side) → ℕ → Type 0
 ReachesBefore polygons i = PassesBefore (IsReached (AreNeighbours polygons)) (range_with_len 0 (length polygons)) (range_with_len i (length polygons - i))
 
+-- no polygon comes before polygon 0
 pub reached_none : (polygons : List (List Side)) → ReachesBefore polygons 0
 reached_none polygons =
     let same : length polygons ≡ length polygons - 0 = omega arith in
@@ -293,6 +302,7 @@ next_reached : (polygons : List (List Side)) (marks : List Bool) (i : ℕ) → A
     → PassesBefore (IsReached (AreNeighbours polygons)) (range_with_len 0 (length polygons)) (i ∷ range_with_len (i + 1) (length polygons - (i + 1)))
 next_reached polygons marks i m l before = passes_before_same _ _ _ _ (range_more i (length polygons) (omega (arith, l, m.long))) before
 
+-- a marked polygon is reached
 pub reached_more : (polygons : List (List Side)) (marks read : List Bool) (i : ℕ) → AreReachedMarks polygons marks → read ≡ marks → i < length read → IsMarked read i → ReachesBefore polygons i → ReachesBefore polygons (i + 1)
 reached_more polygons marks read i m same l marked before =
     let n : AreReachedMarks polygons read = subst (AreReachedMarks polygons) (sym same) m in

@@ -50,10 +50,12 @@ pub record IsScaled (shape : Shape) (den : ℤ) (polygons : List (List V2)) : Ty
   pub positive : pos 0 <ℤ den
   pub within : InWidth den
 
+-- the scaled polygons from the clauses of `scale`
 pub is_scaled : (shape : Shape) (den : ℤ) (polygons : List (List V2)) → AllByRecursion PassesScale (scale_tests shape.polygons)
     → den ≡ pos (common_den shape.polygons) → polygons ≡ polygons_of shape → pos 0 <ℤ den → InWidth den → IsScaled shape den polygons
 is_scaled shape den polygons passed denominator taken positive within = record { passed = passed; denominator = denominator; taken = taken; positive = positive; within = within }
 
+-- scaling stops: the result is the stop of its first failed test
 pub outcome_at_scaling : (d : ℕ) (shape : Shape) (e : BuildStop) → (e ≡ NoMemory) ⊎ IsFirstStop PassesScale (scale_tests shape.polygons) scale_stop e → IsBuildResult d shape (Err e)
 outcome_at_scaling d shape e h = elim h [
   | inl memory ↦ inl memory
@@ -73,9 +75,11 @@ module _ (d : ℕ) (shape : Shape) (den : ℤ) (polygons : List (List V2)) (scal
   scale_passes : AllByRecursion (PassesOf d shape) (map of_scaling (scale_tests shape.polygons))
   scale_passes = All-map of_scaling (PassesOf d shape) (scale_tests shape.polygons) scaled.passed
 
+  -- what the polygons and the lines of the shape pass
   abbrev P : Test → Type 0
   P = Passes d polygons shape.glues
 
+  -- e is the stop of the first of these tests that fails
   abbrev StopsIn : List Test → BuildStop → Type 0
   StopsIn ts e = IsFirstStop P ts stop_of e
 
@@ -84,30 +88,33 @@ module _ (d : ℕ) (shape : Shape) (den : ℤ) (polygons : List (List V2)) (scal
       let a = subst (λ ps. IsFirstStop (Passes d ps shape.glues) (tests ps shape.glues) stop_of e) scaled.taken f in
       inr (a.test, first_of_back (PassesOf d shape) (map of_scaling (scale_tests shape.polygons)) (tests (polygons_of shape) shape.glues) a.test scale_passes a.first, a.is)
 
-  of_front : (xs ys : List Test) (e : BuildStop) → StopsIn xs e → StopsIn (xs ++ ys) e
-  of_front xs ys e a = record { test = a.test; first = first_of_front P xs ys a.test a.first; is = a.is }
+  of_prefix : (xs ys : List Test) (e : BuildStop) → StopsIn xs e → StopsIn (xs ++ ys) e
+  of_prefix xs ys e a = record { test = a.test; first = first_of_front P xs ys a.test a.first; is = a.is }
 
-  of_back : (xs ys : List Test) (e : BuildStop) → AllByRecursion P xs → StopsIn ys e → StopsIn (xs ++ ys) e
-  of_back xs ys e passed a = record { test = a.test; first = first_of_back P xs ys a.test passed a.first; is = a.is }
+  of_suffix : (xs ys : List Test) (e : BuildStop) → AllByRecursion P xs → StopsIn ys e → StopsIn (xs ++ ys) e
+  of_suffix xs ys e passed a = record { test = a.test; first = first_of_back P xs ys a.test passed a.first; is = a.is }
 
+  -- a polygon fails: the result is the stop of its first failed test
   pub outcome_at_polygons : (e : BuildStop) → (e ≡ NoMemory) ⊎ ((glues : List Glue) → IsFirstStop (Passes d polygons glues) (tests_from 0 polygons) stop_of e) → IsBuildResult d shape (Err e)
-  outcome_at_polygons e h = elim h [ inl memory ↦ inl memory | inr a ↦ outcome_by e (of_front _ _ e (a shape.glues)) ]
+  outcome_at_polygons e h = elim h [ inl memory ↦ inl memory | inr a ↦ outcome_by e (of_prefix _ _ e (a shape.glues)) ]
 
+  -- a glue line fails: the result is the stop of its first failed test
   pub outcome_at_lines : (e : BuildStop) → AllByRecursion P (tests_from 0 polygons)
       → (e ≡ NoMemory) ⊎ IsFirstStop (PassesLine polygons) (line_tests [] shape.glues) line_stop e → IsBuildResult d shape (Err e)
   outcome_at_lines e each h = elim h [
     | inl memory ↦ inl memory
-    | inr a ↦ outcome_by e (of_back _ _ e each (of_front _ _ e (first_stop_of_map of_line P (line_tests [] shape.glues) stop_of e a)))
+    | inr a ↦ outcome_by e (of_suffix _ _ e each (of_prefix _ _ e (first_stop_of_map of_line P (line_tests [] shape.glues) stop_of e a)))
   ]
 
   lines_pass : AllByRecursion (PassesLine polygons) (line_tests [] shape.glues) → AllByRecursion P (map of_line (line_tests [] shape.glues))
   lines_pass lines = All-map of_line P (line_tests [] shape.glues) lines
 
+  -- a side has no partner: the result is `Unglued`
   pub outcome_at_sides : (p : Corner → Option Corner) (e : BuildStop) → AllByRecursion P (tests_from 0 polygons) → AllByRecursion (PassesLine polygons) (line_tests [] shape.glues) → ArePartners shape.glues p
       → (e ≡ NoMemory) ⊎ IsFirstStop (λ c. IsSome (p c)) (all_sides polygons) (λ c. stop_of (side_glued c)) e → IsBuildResult d shape (Err e)
   outcome_at_sides p e each lines partners h = elim h [
     | inl memory ↦ inl memory
-    | inr a ↦ outcome_by e (of_back _ _ e each (of_back _ _ e (lines_pass lines) (of_front _ _ e (first_stop_of_map side_glued P (all_sides polygons) stop_of e
+    | inr a ↦ outcome_by e (of_suffix _ _ e each (of_suffix _ _ e (lines_pass lines) (of_prefix _ _ e (first_stop_of_map side_glued P (all_sides polygons) stop_of e
         (first_stop_of_same (λ c. IsSome (p c)) (Contains (glued_sides shape.glues)) (all_sides polygons) (λ c. stop_of (side_glued c)) e
         (λ c. listed_from_partner shape.glues p c partners) (λ c. listed_has_partner shape.glues p c partners) a)))))
   ]
@@ -118,13 +125,16 @@ module _ (d : ℕ) (shape : Shape) (den : ℤ) (polygons : List (List V2)) (scal
   summed : sum_by length polygons ≡ sum_by length shape.polygons
   summed = ap (sum_by length) scaled.taken ∙ shape_sides shape
 
+  -- each polygon has at most 1,024 sides
   pub short : IsWithinLimits shape → AllByRecursion (λ polygon. length polygon ≤ 1024) polygons
   short limits = subst (AllByRecursion (λ polygon. length polygon ≤ 1024)) (sym scaled.taken) (short_polygons shape limits)
 
   module _ (p : Corner → Option Corner) (h : IsPaired d polygons shape.glues p) where
+    -- the glued polygons
     abbrev rows : List (List Side)
     rows = glued_polygons p 0 polygons
 
+    -- polygon k is reached through glued sides
     abbrev IsNear : ℕ → Type 0
     IsNear = IsReached (AreNeighbours rows)
 
@@ -146,7 +156,7 @@ module _ (d : ℕ) (shape : Shape) (den : ℤ) (polygons : List (List V2)) (scal
       | inl memory ↦ inl memory
       | inr a ↦
           let joined : IsFirstStop (IsReached (Joins shape.glues)) numbers (λ i. stop_of (polygon_reached i)) e = first_stop_of_same IsNear (IsReached (Joins shape.glues)) numbers (λ i. stop_of (polygon_reached i)) e near_joined joined_near a in
-          outcome_by e (of_back _ _ e h.each (of_back _ _ e (lines_pass h.lines) (of_back _ _ e sides_pass
+          outcome_by e (of_suffix _ _ e h.each (of_suffix _ _ e (lines_pass h.lines) (of_suffix _ _ e sides_pass
           (subst (λ n. StopsIn (map polygon_reached (range_with_len 0 n)) e) (rows_length p 0 polygons) (first_stop_of_map polygon_reached P numbers stop_of e joined)))))
     ]
 
@@ -156,12 +166,15 @@ module _ (d : ℕ) (shape : Shape) (den : ℤ) (polygons : List (List V2)) (scal
         (subst (λ n. AllByRecursion P (map polygon_reached (range_with_len 0 n))) (rows_length p 0 polygons)
         (All-map polygon_reached P numbers (All-weaker IsNear (IsReached (Joins shape.glues)) near_joined numbers near)))))))
 
+    -- there is at least one polygon
     pub some_rows : (polygons' : List (List Side)) → polygons' ≡ rows → IsWithinLimits shape → 0 < length polygons'
     some_rows polygons' is limits = subst (λ n. 0 < n) (sym (ap length is ∙ rows_length p 0 polygons ∙ counted)) limits.some_polygon
 
+    -- there are at most 256 polygons
     pub few_rows : (polygons' : List (List Side)) → polygons' ≡ rows → IsWithinLimits shape → length polygons' ≤ 256
     few_rows polygons' is limits = subst (λ n. n ≤ 256) (sym (ap length is ∙ rows_length p 0 polygons ∙ counted)) limits.polygons
 
+    -- every side of the glued polygons is glued
     pub glued_sides_of : (polygons' : List (List Side)) → polygons' ≡ rows → (c : Corner) (side : Side) → at_side polygons' c ≡ Some side → IsGlued polygons' c side
     glued_sides_of polygons' is = subst (λ (ps : List (List Side)). (c : Corner) (side : Side) → at_side ps c ≡ Some side → IsGlued ps c side) (sym is) (rows_are_glued d polygons shape.glues p h)
 
@@ -169,6 +182,7 @@ module _ (d : ℕ) (shape : Shape) (den : ℤ) (polygons : List (List V2)) (scal
     pub near_rows : (polygons' : List (List Side)) → polygons' ≡ rows → AllByRecursion (IsReached (AreNeighbours polygons')) (range_with_len 0 (length polygons')) → AllByRecursion IsNear numbers
     near_rows polygons' is a = subst (λ (ps : List (List Side)). AllByRecursion (IsReached (AreNeighbours ps)) (range_with_len 0 (length ps))) is a
 
+    -- a polygon isn't reached: the result is `Apart`
     pub apart_rows : (polygons' : List (List Side)) → polygons' ≡ rows → (e : BuildStop)
         → (e ≡ NoMemory) ⊎ IsFirstStop (IsReached (AreNeighbours polygons')) (range_with_len 0 (length polygons')) (λ i. stop_of (polygon_reached i)) e → IsBuildResult d shape (Err e)
     apart_rows polygons' is e k = outcome_at_reaching e
@@ -181,11 +195,13 @@ module _ (d : ℕ) (shape : Shape) (den : ℤ) (polygons : List (List V2)) (scal
         (subst (λ n. n ≤ 1024) (sym summed) limits.sides)
         (λ k l. let same : 0 + k ≡ k = omega arith in subst IsNear same (all_in_range IsNear 0 (length rows) k near l))
 
+    -- the glued polygons are a surface
     pub surface_is : (polygons' : List (List Side)) → IsRadicand d → IsWithinLimits shape → AllByRecursion IsNear numbers → polygons' ≡ rows → IsSurface (record { d = d; den = passed_on den; polygons = polygons' })
     surface_is polygons' radicand limits near is =
         subst (λ ps. IsSurface (record { d = d; den = passed_on den; polygons = ps })) (sym is)
         (subst (λ n. IsSurface (record { d = d; den = n; polygons = rows })) (sym den_passed_on) (surface radicand limits near))
 
+    -- all tests pass: the result is the surface of the shape
     pub outcome_of_all_passed : (s : GluedPolygons) → IsRadicand d → IsWithinLimits shape → AllByRecursion IsNear numbers → s ≡ record { d = d; den = passed_on den; polygons = rows } → IsBuildResult d shape (Ok s)
     outcome_of_all_passed s radicand limits near is = subst (λ t. IsBuildResult d shape (Ok t)) (sym (is ∙ ap (λ n. record { d = d; den = n; polygons = rows }) den_passed_on)) (
       surface radicand limits near,
@@ -200,6 +216,7 @@ module _ (d : ℕ) (shape : Shape) (den : ℤ) (polygons : List (List V2)) (scal
       all_pass near,
     )
 
+    -- the stored positions are those of the glued polygons
     pub positions_are : (polygons' : List (List Side)) (positions : List (List V2)) → positions ≡ all_positions polygons → polygons' ≡ rows → positions ≡ all_positions (map side_vectors polygons')
     positions_are polygons' positions is same = is ∙ ap all_positions (sym (rows_vectors p 0 polygons)) ∙ ap (λ (ps : List (List Side)). all_positions (map side_vectors ps)) (sym same)
 

@@ -32,6 +32,7 @@ HasDenominators point = (0 < point.x.den) × (0 < point.y.den)
 
 -- ---- the common denominator
 
+-- both denominators of the side are above 0
 abbrev HasOwnDenominators : NumberedSide → Type 0
 HasOwnDenominators s = HasDenominators s.vector
 
@@ -61,6 +62,7 @@ positive n h = omega (arith, ints)
 
 -- ---- the partners of the sides
 
+-- p with the partner v put at k
 abbrev put : (Corner → Option Corner) → Corner → Corner → Corner → Option Corner
 put p k v c = cond (is_at (corner_cmp k) c) (Some v) (p c)
 
@@ -78,24 +80,30 @@ partners_of polygons earlier (g ∷ glues) p a lines =
 -- ---- the surface
 
 module _ (d : ℕ) (shape : Shape) (passed : AllByRecursion (PassesOf d shape) (tests_of shape)) where
+  -- what the shape passes
   abbrev P : Test → Type 0
   P = PassesOf d shape
 
+  -- the scaled polygons
   abbrev polygons : List (List V2)
   polygons = polygons_of shape
 
+  -- the glue lines
   abbrev glues : List Glue
   glues = shape.glues
 
   scales : AllByRecursion PassesScale (scale_tests shape.polygons)
   scales = All-from_map of_scaling P (scale_tests shape.polygons) (All-front P (map of_scaling (scale_tests shape.polygons)) (tests polygons glues) passed)
 
+  -- the tests that come last: each polygon is reached
   abbrev of_reach : List Test
   of_reach = map polygon_reached (range_with_len 0 (length polygons))
 
+  -- the tests after those of the lines
   abbrev of_sides : List Test
   of_sides = map side_glued (all_sides polygons) ++ of_reach
 
+  -- the tests after those of the polygons
   abbrev of_lines : List Test
   of_lines = map of_line (line_tests [] glues) ++ of_sides
 
@@ -136,6 +144,7 @@ module _ (d : ℕ) (shape : Shape) (passed : AllByRecursion (PassesOf d shape) (
       sides = All-weaker (Contains (glued_sides glues)) (λ c. IsSome (p c)) (λ c. listed_has_partner glues p c partners) (all_sides polygons) listed;
     }
 
+    -- the glued polygons
     abbrev rows : List (List Side)
     rows = glued_polygons p 0 polygons
 

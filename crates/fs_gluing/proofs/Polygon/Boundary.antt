@@ -25,6 +25,7 @@ closing_tests sides = position_tests (length sides) ++ polygon_closes ∷ []
 abbrev pub tests_after : List V2 → ℕ → List PolygonTest
 tests_after sides j = flat_map (λ k. x_fits k ∷ y_fits k ∷ []) (range_with_len j (length sides - j)) ++ polygon_closes ∷ []
 
+-- the tests of the positions at the ends of these sides, and the test that the polygon closes
 abbrev tests_over : List ℕ → List PolygonTest
 tests_over js = flat_map (λ k. x_fits k ∷ y_fits k ∷ []) js ++ polygon_closes ∷ []
 
@@ -61,6 +62,7 @@ at_side_tests : (d : ℕ) (sides : List V2) (j : ℕ) (position : V2) (positions
     → PassesBefore (PassesIn d sides) (closing_tests sides) (x_fits j ∷ y_fits j ∷ tests_after sides (j + 1))
 at_side_tests d sides j position positions l w = passes_before_same _ _ _ _ (tests_after-more sides j l) (w.passed d)
 
+-- corner 0 is at (0,0)
 pub positions_none : (sides : List V2) (positions : List V2) → positions ≡ [] → HasPositionsUpTo sides 0 vector_zero positions
 positions_none sides positions none = record {
   position_is = refl;
@@ -68,6 +70,7 @@ positions_none sides positions none = record {
   passed = λ d. passes_before_none _ _ _ (tests_after-none sides);
 }
 
+-- one more position
 pub positions_more : (sides : List V2) (j : ℕ) (position side : V2) (positions positions' : List V2) → IsItem sides j side → HasPositionsUpTo sides j position positions → positions' ≡ positions ++ position ∷ []
     → (x y : Quadratic) → Fits (add position.x side.x) → x ≡ add position.x side.x → Fits (add position.y side.y) → y ≡ add position.y side.y → HasPositionsUpTo sides (j + 1) (record { x = x; y = y }) positions'
 positions_more sides j position side positions positions' item w more x y fits_x is_x fits_y is_y =
@@ -89,6 +92,7 @@ positions_more sides j position side positions positions' item w more x y fits_x
 abbrev pub polygon_stop : ℕ → List V2 → PolygonTest → BuildStop
 polygon_stop i sides test = stop_of (of_polygon i sides test)
 
+-- x of the next position overflows
 pub x_fails : (i n : ℕ) → n ≡ i → (sides : List V2) (j : ℕ) (position side : V2) (positions : List V2) → IsItem sides j side → HasPositionsUpTo sides j position positions
     → ¬ Fits (add position.x side.x) → (d : ℕ) → IsFirstStop (PassesIn d sides) (closing_tests sides) (polygon_stop i sides) (stops.Overflow (sites.Close n j 1))
 x_fails i n same sides j position side positions item w fails d =
@@ -96,6 +100,7 @@ x_fails i n same sides j position side positions item w fails d =
     (first_stop_of_head (PassesIn d sides) (x_fits j) _ (polygon_stop i sides) _ (ap (λ k. stops.Overflow (sites.Close k j 1)) same)
     (λ fits. fails (subst (λ (p : V2). Fits p.x) (position_after_is sides j position side positions item w) fits)))
 
+-- y of the next position overflows
 pub y_fails : (i n : ℕ) → n ≡ i → (sides : List V2) (j : ℕ) (position side : V2) (positions : List V2) → IsItem sides j side → HasPositionsUpTo sides j position positions
     → Fits (add position.x side.x) → ¬ Fits (add position.y side.y) → (d : ℕ) → IsFirstStop (PassesIn d sides) (closing_tests sides) (polygon_stop i sides) (stops.Overflow (sites.Close n j 2))
 y_fails i n same sides j position side positions item w fits_x fails d =
@@ -113,6 +118,7 @@ positions_all sides n position positions e w = (
   λ d. passes_before_same _ _ _ _ (ap (tests_after sides) e ∙ tests_after-all sides) (w.passed d),
 )
 
+-- the last position isn't (0,0): the polygon doesn't close
 pub closes_fails : (i : ℕ) (sides : List V2) (n : ℕ) (position : V2) (positions : List V2) → n ≡ length sides → HasPositionsUpTo sides n position positions → position ≢ vector_zero
     → (d : ℕ) → IsFirstStop (PassesIn d sides) (closing_tests sides) (polygon_stop i sides) (stops.Fault (faults.NotClosed i))
 closes_fails i sides n position positions e w fails d =
@@ -120,6 +126,7 @@ closes_fails i sides n position positions e w fails d =
     first_stop_of_rest _ _ _ _ _ (a.1 d)
     (first_stop_of_head (PassesIn d sides) polygon_closes [] (polygon_stop i sides) _ refl (λ closes. fails (a.0 ∙ closes)))
 
+-- the last position is (0,0): all tests pass
 pub closes : (sides : List V2) (n : ℕ) (position : V2) (positions : List V2) → n ≡ length sides → HasPositionsUpTo sides n position positions → position ≡ vector_zero
     → (d : ℕ) → AllByRecursion (PassesIn d sides) (closing_tests sides)
 closes sides n position positions e w closed d =

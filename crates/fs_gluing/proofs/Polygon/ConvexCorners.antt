@@ -48,6 +48,7 @@ greater_from_eq Less b is e = absurd (false_not_true (sym is ∙ e))
 greater_from_eq Equal b is e = absurd (false_not_true (sym is ∙ e))
 greater_from_eq Greater b is e = refl
 
+-- where the test is false, the sign is another
 pub not_greater_from_eq : (o : Ordering) (b : Bool) → b ≡ (ordering_index o == 2) → b ≡ false → o ≢ Greater
 not_greater_from_eq Less b is e f = cc
 not_greater_from_eq Equal b is e f = cc
@@ -60,6 +61,7 @@ same_place : (p q : ℕ) → ◌≡◌ {A = Result Quadratic Place} (Err (place 
 same_place p q h = ap (λ (x : Place). x.0) (same_stop (place p) (place q) h)
 
 module _ (d : ℕ) (sides : List V2) (j : ℕ) (corner : CornerSides) where
+  -- the computation of the cross product of the two sides
   abbrev crossed : Result Quadratic Place
   crossed = cross_after 0 d corner.before corner.after
 
@@ -70,12 +72,14 @@ module _ (d : ℕ) (sides : List V2) (j : ℕ) (corner : CornerSides) where
       not_err : (p : ℕ) → crossed ≢ Err (place p)
       not_err p f = let both : Ok value ≡ Err (place p) = sym e ∙ f in cc
 
+  -- a corner with a positive cross product passes
   pub corner_passes : (value : Quadratic) → IsRadicand d → crossed ≡ Ok value → sign d value ≡ Greater → AllByRecursion (PassesIn d sides) (corner_tests j (corner ∷ []))
   corner_passes value radicand e is =
       let known = cross_known value e in
       let convex : IsPositive d (cross d corner.before corner.after) = subst (IsPositive d) (cross_value 0 d corner.before corner.after value e) (positive_of_sign (radicand_no_square radicand) value is) in
       (known.0, (known.1.0, (known.1.1.0, (convex, tt))))
 
+  -- a corner with a cross product of 0 or below gives `NotConvex`
   pub corner_not_convex : (i : ℕ) (value : Quadratic) → crossed ≡ Ok value → sign d value ≢ Greater
       → IsFirstStop (PassesIn d sides) (corner_tests j (corner ∷ [])) (polygon_stop i sides) (stops.Fault (faults.NotConvex (record { polygon = i; side = j })))
   corner_not_convex i value e isnt =
@@ -88,12 +92,13 @@ module _ (d : ℕ) (sides : List V2) (j : ℕ) (corner : CornerSides) where
   stops_at_one_place : (p q : ℕ) → crossed ≡ Err (place p) → q ≢ p → crossed ≢ Err (place q)
   stops_at_one_place p q e other f = other (same_place p q (sym e ∙ f))
 
+  -- the overflow at place p of the corner is the stop of its first failed test
   abbrev StopsAt : ℕ → ℕ → Type 0
   StopsAt i p = IsFirstStop (PassesIn d sides) (corner_tests j (corner ∷ [])) (polygon_stop i sides) (stops.Overflow (sites.Corner i j p))
 
-  fails_at : (i p : ℕ) (front rest : List PolygonTest) → corner_tests j (corner ∷ []) ≡ front ++ cross_fits j corner p ∷ rest → AllByRecursion (PassesIn d sides) front → crossed ≡ Err (place p) → StopsAt i p
-  fails_at i p front rest whole passed e =
-      first_stop_of_rest _ _ (cross_fits j corner p ∷ rest) _ _ (record { before = front; whole = whole; passed = passed })
+  fails_at : (i p : ℕ) (prefix rest : List PolygonTest) → corner_tests j (corner ∷ []) ≡ prefix ++ cross_fits j corner p ∷ rest → AllByRecursion (PassesIn d sides) prefix → crossed ≡ Err (place p) → StopsAt i p
+  fails_at i p prefix rest whole passed e =
+      first_stop_of_rest _ _ (cross_fits j corner p ∷ rest) _ _ (record { before = prefix; whole = whole; passed = passed })
       (first_stop_of_head (PassesIn d sides) (cross_fits j corner p) rest (polygon_stop i sides) _ refl (λ fits. fits e))
 
   stops_at : (i p : ℕ) → crossed ≡ Err (place p) → IsFirstOfThree (MulFits d corner.before.x corner.after.y) (MulFits d corner.before.y corner.after.x) (Fits (cross d corner.before corner.after)) 0 (place p) → StopsAt i p
@@ -127,11 +132,13 @@ next_tests : (sides : List V2) (j : ℕ) (before side : V2) → IsItem sides j s
     → corner_tests j (corners_from before (drop j sides)) ≡ corner_tests j ((record { before = before; after = side }) ∷ []) ++ corner_tests (j + 1) (corners_from side (drop (j + 1) sides))
 next_tests sides j before side item = ap (λ ss. corner_tests j (corners_from before ss)) (drop_more sides j side item.inside ∙ ap (λ s. s ∷ drop (j + 1) sides) (sym item.is))
 
+-- one more corner passes
 pub corners_more : (d : ℕ) (sides : List V2) (j : ℕ) (before side : V2) → IsItem sides j side → PassesCornersUpTo d sides j before
     → AllByRecursion (PassesIn d sides) (corner_tests j ((record { before = before; after = side }) ∷ [])) → PassesCornersUpTo d sides (j + 1) side
 corners_more d sides j before side item t a =
     record { passed = passes_before_more _ _ (corner_tests j ((record { before = before; after = side }) ∷ [])) _ (passes_before_same _ _ _ _ (next_tests sides j before side item) t.passed) a }
 
+-- the next corner fails, and its stop is the first of all corners
 pub corner_fails : (d : ℕ) (sides : List V2) (i j : ℕ) (before side : V2) (e : BuildStop) → IsItem sides j side → PassesCornersUpTo d sides j before
     → IsFirstStop (PassesIn d sides) (corner_tests j ((record { before = before; after = side }) ∷ [])) (polygon_stop i sides) e
     → IsFirstStop (PassesIn d sides) (corner_tests 0 (corners_of sides)) (polygon_stop i sides) e

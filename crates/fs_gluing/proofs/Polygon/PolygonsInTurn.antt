@@ -26,6 +26,7 @@ pub record PassesPolygonsUpTo (d : ℕ) (polygons : List (List V2)) (i : ℕ) (p
 next_polygon : (polygons : List (List V2)) (i : ℕ) (polygon : List V2) → IsItem polygons i polygon → drop i polygons ≡ polygon ∷ drop (i + 1) polygons
 next_polygon polygons i polygon item = drop_more polygons i polygon item.inside ∙ ap (λ p. p ∷ drop (i + 1) polygons) (sym item.is)
 
+-- one more polygon passes
 pub passed_more : (d : ℕ) (polygons : List (List V2)) (i : ℕ) (polygon : List V2) (positions positions' : List (List V2)) (own : List V2) → IsItem polygons i polygon → PassesPolygonsUpTo d polygons i positions
     → AllByRecursion (PassesIn d polygon) (polygon_tests polygon) → own ≡ positions_from vector_zero polygon → positions' ≡ positions ++ own ∷ [] → PassesPolygonsUpTo d polygons (i + 1) positions'
 passed_more d polygons i polygon positions positions' own item p a is more =
@@ -40,12 +41,14 @@ passed_more d polygons i polygon positions positions' own item p a is more =
           ∙ p.positions_are;
     }
 
+-- the next polygon fails, and its stop is the first of all polygons
 pub passed_fails : (d : ℕ) (polygons : List (List V2)) (i : ℕ) (polygon : List V2) (positions : List (List V2)) (e : BuildStop) → IsItem polygons i polygon → PassesPolygonsUpTo d polygons i positions
     → IsFirstStop (PassesIn d polygon) (polygon_tests polygon) (polygon_stop i polygon) e → (glues : List Glue) → IsFirstStop (Passes d polygons glues) (tests_from 0 polygons) stop_of e
 passed_fails d polygons i polygon positions e item p a glues =
     first_stop_of_rest _ _ _ _ _ (passes_before_same _ _ _ _ (ap (tests_from i) (next_polygon polygons i polygon item)) (p.passed glues))
     (first_stop_of_prefix _ _ _ _ _ (first_stop_of_map (of_polygon i polygon) (Passes d polygons glues) (polygon_tests polygon) stop_of e a))
 
+-- all polygons pass, and the list has the positions of all
 pub passed_all : (d : ℕ) (polygons : List (List V2)) (n : ℕ) (positions : List (List V2)) → n ≡ length polygons → PassesPolygonsUpTo d polygons n positions
     → ((glues : List Glue) → AllByRecursion (Passes d polygons glues) (tests_from 0 polygons)) × (positions ≡ all_positions polygons)
 passed_all d polygons n positions e p = (
@@ -72,18 +75,22 @@ sum_of_mapped f (row ∷ rows) =
     ∙ ap (λ n. length row + n) (sum_of_mapped f rows)
     ∙ sym (sum_by-cons length row rows)
 
+-- where a sum of lengths is at most a number, each length is
 pub each_short : {X : Type 0} (rows : List (List X)) (most : ℕ) → sum_by length rows ≤ most → AllByRecursion (λ row. length row ≤ most) rows
 each_short [] most few = tt
 each_short (row ∷ rows) most few =
     let sum = sum_by-cons length row rows in
     (omega arith, each_short rows most (omega arith))
 
+-- scaling keeps the number of polygons
 pub shape_count : (shape : Shape) → length (polygons_of shape) ≡ length shape.polygons
 shape_count shape = length-map shape.polygons (map (scaled_vector (common_den shape.polygons)))
 
+-- scaling keeps the number of sides
 pub shape_sides : (shape : Shape) → sum_by length (polygons_of shape) ≡ sum_by length shape.polygons
 shape_sides shape = sum_of_mapped (scaled_vector (common_den shape.polygons)) shape.polygons
 
+-- the scaled polygons of a shape have at most 1,024 sides
 pub short_polygons : (shape : Shape) → IsWithinLimits shape → AllByRecursion (λ polygon. length polygon ≤ 1024) (polygons_of shape)
 short_polygons shape h = each_short (polygons_of shape) 1024 (subst (λ n. n ≤ 1024) (sym (shape_sides shape)) h.sides)
 

@@ -91,9 +91,11 @@ at_mapped : {X Y : Type 0} (f : X → Y) (o : Option (List X)) (n : ℕ) → opt
 at_mapped f None n = refl
 at_mapped f (Some row) n = slice_get-map f row n
 
+-- a side of mapped polygons is the value of the map at that side
 pub at_side-map : {X Y : Type 0} (f : X → Y) (rows : List (List X)) (c : Corner) → at_side (map (map f) rows) c ≡ option_map f (at_side rows c)
 at_side-map f rows c = ap (option_and_then (λ row. slice_get row c.side)) (slice_get-map (map f) rows c.polygon) ∙ at_mapped f (slice_get rows c.polygon) c.side
 
+-- the vectors of a surface over the common denominator are those of the shape
 pub vectors_scaled : (shape : Shape) (polygons : List (List Side)) → map side_vectors polygons ≡ polygons_of shape → (c : Corner) (point : Point) (side : Side)
     → at_side shape.polygons c ≡ Some point → at_side polygons c ≡ Some side → IsScaledVector (common_den shape.polygons) point side.vector
 vectors_scaled shape polygons same c point side there here =

@@ -32,6 +32,7 @@ pub next_side : (i : ℕ) (points : List Point) (j : ℕ) (point : Point) → Is
     → numbered_sides i j (drop j points) ≡ numbered_sides i j (point ∷ []) ++ numbered_sides i (j + 1) (drop (j + 1) points)
 next_side i points j point item = ap (numbered_sides i j) (next_item points j point item)
 
+-- the sides from polygon i on are those of polygon i and those from polygon i + 1 on
 pub next_polygon : (polygons : List (List Point)) (i : ℕ) (points : List Point) → IsItem polygons i points
     → numbered_from i (drop i polygons) ≡ numbered_sides i 0 points ++ numbered_from (i + 1) (drop (i + 1) polygons)
 next_polygon polygons i points item = ap (numbered_from i) (next_item polygons i points item)
@@ -80,11 +81,13 @@ common_fails m all xs rest den e c a = first_stop_of_rest _ _ _ _ _ (before_rest
 abbrev pub HasCommonOfSides : ℕ → ℕ → List Point → ℕ → ℕ → Type 0
 HasCommonOfSides m i points j den = HasCommonUpTo m (numbered_sides i 0 points) (numbered_sides i j (drop j points)) den
 
+-- the common multiple after one more side
 pub row_more : (m i : ℕ) (points : List Point) (j den k : ℕ) (point : Point) → IsItem points j point → HasCommonOfSides m i points j den → 0 < k → k < 2 ^ 127
     → k ≡ common_from den (numbered_sides i j (point ∷ [])) → AllByRecursion PassesScale (common_tests den (numbered_sides i j (point ∷ []))) → HasCommonOfSides m i points (j + 1) k
 row_more m i points j den k point item c =
     common_more m _ (numbered_sides i j (point ∷ [])) _ den k (left_same m _ _ _ den (next_side i points j point item) c)
 
+-- a denominator of the next side overflows
 pub row_fails : (m i : ℕ) (points : List Point) (j den : ℕ) (point : Point) (e : BuildStop) → IsItem points j point → HasCommonOfSides m i points j den
     → IsFirstStop PassesScale (common_tests den (numbered_sides i j (point ∷ []))) scale_stop e → IsFirstStop PassesScale (common_tests m (numbered_sides i 0 points)) scale_stop e
 row_fails m i points j den point e item c =
@@ -94,11 +97,13 @@ row_fails m i points j den point e item c =
 abbrev pub HasCommonOfPolygons : List (List Point) → ℕ → ℕ → Type 0
 HasCommonOfPolygons polygons i den = HasCommonUpTo 1 (all_numbered polygons) (numbered_from i (drop i polygons)) den
 
+-- the common multiple after one more polygon
 pub polygons_more : (polygons : List (List Point)) (i den k : ℕ) (points : List Point) → IsItem polygons i points → HasCommonOfPolygons polygons i den → 0 < k → k < 2 ^ 127
     → k ≡ common_from den (numbered_sides i 0 points) → AllByRecursion PassesScale (common_tests den (numbered_sides i 0 points)) → HasCommonOfPolygons polygons (i + 1) k
 polygons_more polygons i den k points item c =
     common_more 1 _ (numbered_sides i 0 points) _ den k (left_same 1 _ _ _ den (next_polygon polygons i points item) c)
 
+-- a denominator of the next polygon overflows
 pub polygons_fail : (polygons : List (List Point)) (i den : ℕ) (points : List Point) (e : BuildStop) → IsItem polygons i points → HasCommonOfPolygons polygons i den
     → IsFirstStop PassesScale (common_tests den (numbered_sides i 0 points)) scale_stop e → IsFirstStop PassesScale (common_tests 1 (all_numbered polygons)) scale_stop e
 polygons_fail polygons i den points e item c =
@@ -110,10 +115,12 @@ polygons_fail polygons i den points e item c =
 abbrev pub stop_at : Corner → ℕ → BuildStop
 stop_at c p = stops.Overflow (sites.Scale c.polygon c.side p)
 
+-- the common multiple with the denominator of x overflows
 pub x_den_fails : (m : ℕ) (c : Corner) (point : Point) (e : BuildStop) → e ≡ stop_at c 1 → ¬ InWidth (pos (common_multiple m point.x.den))
     → IsFirstStop PassesScale (common_tests m (numbered_sides c.polygon c.side (point ∷ []))) scale_stop e
 x_den_fails m c point e is fails = first_stop_of_head PassesScale _ _ scale_stop e is fails
 
+-- the common multiple with the denominator of y overflows
 pub y_den_fails : (m : ℕ) (c : Corner) (point : Point) (with_x : ℕ) (e : BuildStop) → e ≡ stop_at c 2 → InWidth (pos (common_multiple m point.x.den)) → with_x ≡ common_multiple m point.x.den
     → ¬ InWidth (pos (common_multiple with_x point.y.den)) → IsFirstStop PassesScale (common_tests m (numbered_sides c.polygon c.side (point ∷ []))) scale_stop e
 y_den_fails m c point with_x e is fits same fails =
@@ -162,11 +169,13 @@ module _ {X Y : Type 0} (f : X → Y) (xs : List X) (den : ℕ) (all : List Numb
 abbrev pub HasScaledSides : ℕ → ℕ → List Point → ℕ → List V2 → Type 0
 HasScaledSides den i points j row = HasScaledUpTo (scaled_vector den) points j row den (numbered_sides i 0 points) (numbered_sides i j (drop j points))
 
+-- one more side is scaled
 pub row_scaled_more : (den i : ℕ) (points : List Point) (j : ℕ) (row row' : List V2) (point : Point) (vector : V2) → IsItem points j point → HasScaledSides den i points j row
     → vector ≡ scaled_vector den point → row' ≡ row ++ vector ∷ [] → AllByRecursion PassesScale (part_tests den (numbered_sides i j (point ∷ []))) → HasScaledSides den i points (j + 1) row'
 row_scaled_more den i points j row row' point vector item =
     parts_more (scaled_vector den) points den (numbered_sides i 0 points) j row row' (numbered_sides i j (point ∷ [])) _ _ point vector item (next_side i points j point item)
 
+-- a part of the next side overflows
 pub row_scaled_fails : (den i : ℕ) (points : List Point) (j : ℕ) (row : List V2) (point : Point) (e : BuildStop) → IsItem points j point → HasScaledSides den i points j row
     → IsFirstStop PassesScale (part_tests den (numbered_sides i j (point ∷ []))) scale_stop e → IsFirstStop PassesScale (part_tests den (numbered_sides i 0 points)) scale_stop e
 row_scaled_fails den i points j row point e item =
@@ -176,11 +185,13 @@ row_scaled_fails den i points j row point e item =
 abbrev pub HasScaledPolygons : ℕ → List (List Point) → ℕ → List (List V2) → Type 0
 HasScaledPolygons den polygons i rows = HasScaledUpTo (map (scaled_vector den)) polygons i rows den (all_numbered polygons) (numbered_from i (drop i polygons))
 
+-- one more polygon is scaled
 pub polygons_scaled_more : (den : ℕ) (polygons : List (List Point)) (i : ℕ) (rows rows' : List (List V2)) (points : List Point) (row : List V2) → IsItem polygons i points → HasScaledPolygons den polygons i rows
     → row ≡ map (scaled_vector den) points → rows' ≡ rows ++ row ∷ [] → AllByRecursion PassesScale (part_tests den (numbered_sides i 0 points)) → HasScaledPolygons den polygons (i + 1) rows'
 polygons_scaled_more den polygons i rows rows' points row item =
     parts_more (map (scaled_vector den)) polygons den (all_numbered polygons) i rows rows' (numbered_sides i 0 points) _ _ points row item (next_polygon polygons i points item)
 
+-- a part of the next polygon overflows
 pub polygons_scaled_fail : (den : ℕ) (polygons : List (List Point)) (i : ℕ) (rows : List (List V2)) (points : List Point) (e : BuildStop) → IsItem polygons i points → HasScaledPolygons den polygons i rows
     → IsFirstStop PassesScale (part_tests den (numbered_sides i 0 points)) scale_stop e → IsFirstStop PassesScale (part_tests den (all_numbered polygons)) scale_stop e
 polygons_scaled_fail den polygons i rows points e item =
@@ -189,26 +200,32 @@ polygons_scaled_fail den polygons i rows points e item =
 -- ---- one coordinate
 
 -- ---- a factor and a part after they were stored in 128 bits
+
+-- the factor after it was stored
 pub factor_passed : (den m : ℕ) (f : ℤ) → den < 2 ^ 127 → f ≡ pos (den / m) → to_z w128 (of_z w128 f) ≡ pos (den / m)
 factor_passed den m f below is =
     let small = div-le_self den m in
     let within : InWidth (pos (den / m)) = (omega (arith, ints), omega (arith, ints)) in
     through_bits f (subst InWidth (sym is) within) ∙ is
 
+-- a part after it was stored
 pub part_passed : (w z : ℤ) → InWidth z → w ≡ z → to_z w128 (of_z w128 w) ≡ z
 part_passed w z within is = through_bits w (subst InWidth (sym is) within) ∙ is
 
 along : (f w z : ℤ) (k : ℕ) → f ≡ pos k → w ≡ z → f *ℤ w ≡ pos k *ℤ z
 along f w z k same_f same_w = ap (λ n. n *ℤ w) same_f ∙ ap (λ n. pos k *ℤ n) same_w
 
+-- the part without √d overflows
 pub p_fails : (i j place k : ℕ) (f w z y : ℤ) (e : BuildStop) → e ≡ stops.Overflow (sites.Scale i j place) → f ≡ pos k → w ≡ z → ¬ InWidth (f *ℤ w)
     → IsFirstStop PassesScale (part_fits i j place k z ∷ part_fits i j (place + 1) k y ∷ []) scale_stop e
 p_fails i j place k f w z y e is same_f same_w fails =
     first_stop_of_head PassesScale _ _ scale_stop e is (λ fits. fails (subst InWidth (sym (along f w z k same_f same_w)) fits))
 
+-- the product doesn't overflow
 pub part_is_within : (f w z : ℤ) (k : ℕ) → f ≡ pos k → w ≡ z → InWidth (f *ℤ w) → InWidth (pos k *ℤ z)
 part_is_within f w z k same_f same_w fits = subst InWidth (along f w z k same_f same_w) fits
 
+-- the part of √d overflows
 pub q_fails : (i j place k : ℕ) (f w z y : ℤ) (e : BuildStop) → e ≡ stops.Overflow (sites.Scale i j (place + 1)) → InWidth (pos k *ℤ z) → f ≡ pos k → w ≡ y → ¬ InWidth (f *ℤ w)
     → IsFirstStop PassesScale (part_fits i j place k z ∷ part_fits i j (place + 1) k y ∷ []) scale_stop e
 q_fails i j place k f w z y e is fits same_f same_w fails =
@@ -220,19 +237,23 @@ q_fails i j place k f w z y e is fits same_f same_w fails =
 
 -- ---- both coordinates of a side, and both passes over all sides
 
+-- the tests of the parts of x
 abbrev x_parts : ℕ → Corner → Point → List ScaleTest
 x_parts den c point = part_fits c.polygon c.side 3 (den / point.x.den) point.x.num.p ∷ part_fits c.polygon c.side 4 (den / point.x.den) point.x.num.q ∷ []
 
+-- the tests of the parts of y
 abbrev y_parts : ℕ → Corner → Point → List ScaleTest
 y_parts den c point = part_fits c.polygon c.side 5 (den / point.y.den) point.y.num.p ∷ part_fits c.polygon c.side 6 (den / point.y.den) point.y.num.q ∷ []
 
 after : (xs ys : List ScaleTest) (e : BuildStop) → AllByRecursion PassesScale xs → IsFirstStop PassesScale ys scale_stop e → IsFirstStop PassesScale (xs ++ ys) scale_stop e
 after xs ys e a f = first_stop_of_rest PassesScale (xs ++ ys) ys scale_stop e (record { before = xs; whole = refl; passed = a }) f
 
+-- a part of y overflows, after those of x passed
 pub y_parts_fail : (den : ℕ) (c : Corner) (point : Point) (e : BuildStop) → AllByRecursion PassesScale (x_parts den c point)
     → IsFirstStop PassesScale (y_parts den c point) scale_stop e → IsFirstStop PassesScale (part_tests den (numbered_sides c.polygon c.side (point ∷ []))) scale_stop e
 y_parts_fail den c point e a f = after (x_parts den c point) (y_parts den c point) e a f
 
+-- a part overflows, after all denominators passed
 pub parts_of_shape_fail : (polygons : List (List Point)) (den : ℕ) (e : BuildStop) → den ≡ common_den polygons → AllByRecursion PassesScale (common_tests 1 (all_numbered polygons))
     → IsFirstStop PassesScale (part_tests den (all_numbered polygons)) scale_stop e → IsFirstStop PassesScale (scale_tests polygons) scale_stop e
 parts_of_shape_fail polygons den e is a f =

@@ -78,6 +78,7 @@ triangle_stops d sum part t polygon corner same also crossed n =
 abbrev pub triangles_at : ℕ → ℕ → List V2 → List Triangle
 triangles_at i k positions = triangles_from i k (drop k positions)
 
+-- the triangle of corner k and the next one, by their positions
 abbrev pub triangle : ℕ → ℕ → V2 → V2 → Triangle
 triangle i k one two = record { polygon = i; corner = k; one = one; two = two }
 
@@ -108,6 +109,7 @@ next_triangle i j positions one two l first second =
     triangles_at-more i (j - 1) positions one two first (subst (λ k. IsItem positions k two) there second)
     ∙ ap (λ k. triangle i (j - 1) one two ∷ triangles_at i k positions) next
 
+-- one more triangle is added
 pub added_more : (d : ℕ) (sum : Quadratic) (i : ℕ) (positions : List V2) (j : ℕ) (total next : Quadratic) (one two : V2) → 2 ≤ j → IsItem positions (j - 1) one → IsItem positions j two
     → Ok next ≡ sum_after d total (triangle i (j - 1) one two ∷ []) → AddsTrianglesUpTo d sum i positions j total → AddsTrianglesUpTo d sum i positions (j + 1) next
 added_more d sum i positions j total next one two l first second e a = record {
@@ -116,6 +118,7 @@ added_more d sum i positions j total next one two l first second e a = record {
       ∙ sum_after-ok d total next (triangle i (j - 1) one two ∷ []) (triangles_at i (j + 1 - 1) positions) e;
 }
 
+-- after all positions the sum has all triangles of the polygon
 pub added_all : (d : ℕ) (sum : Quadratic) (i : ℕ) (positions : List V2) (j : ℕ) (total : Quadratic) → length positions ≤ j → AddsTrianglesUpTo d sum i positions j total
     → Ok total ≡ sum_after d sum (triangles_at i 1 positions)
 added_all d sum i positions j total l a =
@@ -141,6 +144,7 @@ few_positions s i positions surface l h =
     let same : length positions ≡ length polygon = ap length is ∙ length-positions_from vector_zero (side_vectors polygon) ∙ length-map polygon (λ side. side.vector) in
     subst (λ n. n ≤ 1024) (sym same) (all_at (λ polygon. length polygon ≤ 1024) s.polygons i polygon (each_short s.polygons 1024 surface.sides) there)
 
+-- the triangles of a polygon are added to a sum
 pub polygon_added : (polygons : List (List Side)) (i d d' : ℕ) (sum : Quadratic) (positions : List V2) (r : Result Quadratic Site) → d' ≡ d
     → IfSome (slice_get polygons i) (λ polygon. positions ≡ positions_from vector_zero (side_vectors polygon)) → r ≡ sum_after d' sum (triangles_at i 1 positions)
     → IfSome (slice_get polygons i) (λ polygon. r ≡ sum_after d sum (triangles_of i (side_vectors polygon)))
@@ -164,6 +168,7 @@ polygon_next polygons i polygon there =
 pub record SumsPolygonsUpTo (d : ℕ) (polygons : List (List Side)) (i : ℕ) (sum : Quadratic) : Type 0 where
   pub is : sum_after d ring.zero (triangles_after polygons 0) ≡ sum_after d sum (triangles_after polygons i)
 
+-- one more polygon is added
 pub summed_more : (d : ℕ) (polygons : List (List Side)) (i : ℕ) (sum next : Quadratic) → i < length polygons
     → IfSome (slice_get polygons i) (λ polygon. Ok next ≡ sum_after d sum (triangles_of i (side_vectors polygon))) → SumsPolygonsUpTo d polygons i sum → SumsPolygonsUpTo d polygons (i + 1) next
 summed_more d polygons i sum next l h s =
@@ -175,6 +180,7 @@ summed_more d polygons i sum next l h s =
           (value_at (slice_get polygons i) (λ polygon. Ok next ≡ sum_after d sum (triangles_of i (side_vectors polygon))) polygon there h);
     }
 
+-- the next polygon has a site, and it is the site of the whole sum
 pub summed_stops : (d : ℕ) (polygons : List (List Side)) (i : ℕ) (sum : Quadratic) (site : Site) → i < length polygons
     → IfSome (slice_get polygons i) (λ polygon. Err site ≡ sum_after d sum (triangles_of i (side_vectors polygon))) → SumsPolygonsUpTo d polygons i sum
     → Err site ≡ sum_after d ring.zero (triangles_after polygons 0)
@@ -185,6 +191,7 @@ summed_stops d polygons i sum site l h s =
     ∙ sum_after-stop d sum site (triangles_of i (side_vectors polygon)) (triangles_after polygons (i + 1))
     (value_at (slice_get polygons i) (λ polygon. Err site ≡ sum_after d sum (triangles_of i (side_vectors polygon))) polygon there h))
 
+-- after all polygons the sum has all triangles
 pub summed_all : (d : ℕ) (polygons : List (List Side)) (n : ℕ) (sum : Quadratic) → length polygons ≤ n → SumsPolygonsUpTo d polygons n sum
     → Ok sum ≡ sum_after d ring.zero (triangles_after polygons 0)
 summed_all d polygons n sum l s =

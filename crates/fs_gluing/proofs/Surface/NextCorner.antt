@@ -13,9 +13,11 @@ use Rattle.fs_gluing.specs.NextCorner.{length_or_0, side_count, side_before, cor
 
 -- ---- the number before k and the one after it, modulo n
 
+-- the number before k
 abbrev before : ℕ → ℕ → ℕ
 before n k = if k == 0 then n - 1 else k - 1
 
+-- the number after k
 abbrev after : ℕ → ℕ → ℕ
 after n k = if k + 1 == n then 0 else k + 1
 
@@ -41,6 +43,7 @@ in_polygon_by : {X : Type 0} (polygons : List (List X)) (c : Corner) (x : X) (o 
 in_polygon_by polygons c x None is e = cc
 in_polygon_by polygons c x (Some polygon) is e = record { polygon = polygon; is = is; inside = slice_get_within polygon c.side x e }
 
+-- the polygon of a side that is read
 pub in_polygon_at : {X : Type 0} (polygons : List (List X)) (c : Corner) (x : X) → at_side polygons c ≡ Some x → IsInPolygon polygons c
 in_polygon_at polygons c x e = in_polygon_by polygons c x (slice_get polygons c.polygon) refl e
 
@@ -48,6 +51,7 @@ in_polygon_some : {X : Type 0} (polygons : List (List X)) (c : Corner) (o : Opti
 in_polygon_some polygons c None e h = cc
 in_polygon_some polygons c (Some x) e h = in_polygon_at polygons c x e
 
+-- the polygon of a side that exists
 pub in_polygon : {X : Type 0} (polygons : List (List X)) (c : Corner) → HasSide polygons c → IsInPolygon polygons c
 in_polygon polygons c h = in_polygon_some polygons c (at_side polygons c) refl h
 
@@ -64,6 +68,7 @@ has_other polygons c e s same l =
 count_is : {X : Type 0} (polygons : List (List X)) (c : Corner) (s : IsInPolygon polygons c) → side_count polygons c.polygon ≡ length s.polygon
 count_is polygons c s = ap length_or_0 s.is
 
+-- the side before a corner exists
 pub has_before : {X : Type 0} (polygons : List (List X)) (c : Corner) → HasSide polygons c → HasSide polygons (side_before polygons c)
 has_before polygons c h =
     let s = in_polygon polygons c h in
@@ -100,10 +105,12 @@ pub record Value {X : Type 0} (o : Option X) : Type 0 where
   pub value : X
   pub is : o ≡ Some value
 
+-- an option that is some has a value
 pub value_of : {X : Type 0} (o : Option X) → IsSome o → Value o
 value_of None h = cc
 value_of (Some x) h = record { value = x; is = refl }
 
+-- the partner of the side before a corner is the next corner
 pub is_next_corner : (polygons : List (List Side)) (c b e : Corner) → HasSide polygons c → b ≡ side_before polygons c → IfSome (at_side polygons b) (λ side. e ≡ side.partner) → IsNextCorner polygons c e
 is_next_corner polygons c b e has is h =
     let s = value_of (at_side polygons (side_before polygons c)) (has_before polygons c has) in
@@ -113,6 +120,7 @@ is_next_corner polygons c b e has is h =
       is = sym (subst (λ o. IfSome o (λ side. e ≡ side.partner)) (ap (at_side polygons) is ∙ s.is) h);
     }
 
+-- the next corner exists
 pub has_next_corner : (polygons : List (List Side)) (c e : Corner) → IsGluing polygons → IsNextCorner polygons c e → HasSide polygons e
 has_next_corner polygons c e glued t = subst (HasSide polygons) t.is (has_some polygons t.side.partner _ (glued (side_before polygons c) t.side t.there).back)
 
@@ -127,6 +135,7 @@ partner_back polygons a b x y glued at_a at_b same =
     let one : p ≡ q = cc in
     ap (λ (side : Side). side.partner) one
 
+-- corners with one next corner are equal
 pub next_corner_one_to_one : (polygons : List (List Side)) (c e f : Corner) → IsGluing polygons → HasSide polygons c → HasSide polygons e → IsNextCorner polygons c f → IsNextCorner polygons e f → e ≡ c
 next_corner_one_to_one polygons c e f glued has_c has_e t u =
     sym (after-before_corner polygons e has_e)
@@ -148,6 +157,7 @@ next_corner_onto polygons glued e has =
       },
     )
 
+-- gluing identifies a corner and the next corner
 pub next_corner_one_point : (polygons : List (List Side)) (c e : Corner) → HasSide polygons c → IsNextCorner polygons c e → AreOnePoint polygons c e
 next_corner_one_point polygons c e has t = record {
   corner = side_before polygons c;

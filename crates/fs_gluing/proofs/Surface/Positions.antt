@@ -13,6 +13,7 @@ use Rattle.fs_gluing.specs.Positions.{positions_from, all_positions}
 use Rattle.fs_gluing.specs.Surface.{GluedPolygons, IsPolygon, IsSurface, side_vectors}
 use Rattle.fs_gluing.proofs.Surface.NextCorner.{IsInPolygon}
 
+-- there are as many positions as sides
 pub length-positions_from : (at : V2) (vectors : List V2) → length (positions_from at vectors) ≡ length vectors
 length-positions_from at [] = refl
 length-positions_from at (v ∷ vectors) = ap (λ n. suc n) (length-positions_from (vector_add at v) vectors)
@@ -29,6 +30,7 @@ total-next at (w ∷ vectors) (suc j) v e =
     let more : suc (j + 1) ≡ suc j + 1 = omega arith in
     total-next (vector_add at w) vectors j v e ∙ ap (λ n. vector_total_from at (take n (w ∷ vectors))) more
 
+-- what holds of all items holds of the one at index k
 pub all_at : {X : Type 0} (P : X → Type 0) (xs : List X) (k : ℕ) (x : X) → AllByRecursion P xs → slice_get xs k ≡ Some x → P x
 all_at P [] k x a e = cc
 all_at P (y ∷ xs) zero x a e = subst P (same_Some y x e) a.0
@@ -42,6 +44,7 @@ row_is polygons k polygon row there is =
     (slice_get-map (positions_from vector_zero) (map side_vectors polygons) k
     ∙ ap (option_map (positions_from vector_zero)) (slice_get-map side_vectors polygons k ∙ ap (option_map side_vectors) there))
 
+-- the row that is read has the positions of the polygon
 pub row_positions : (polygons : List (List Side)) (k : ℕ) (row : List V2) → row ≡ get_or (all_positions (map side_vectors polygons)) k row
     → IfSome (slice_get polygons k) (λ polygon. row ≡ positions_from vector_zero (side_vectors polygon))
 row_positions polygons k row is = row_positions_by (slice_get polygons k) refl
@@ -58,6 +61,7 @@ row_read polygons others positions rows k item row same kept read at is =
     let here : item ≡ get_or (all_positions (map side_vectors others.polygons)) k item = at ∙ ap (λ ps. get_or ps k item) whole in
     subst (λ r. r ≡ get_or (all_positions (map side_vectors others.polygons)) k r) (sym is) here
 
+-- the row that is read has a position for each corner
 pub row_long : (polygons : List (List Side)) (c : Corner) (row : List V2) → IsInPolygon polygons c → row ≡ get_or (all_positions (map side_vectors polygons)) c.polygon row → c.side < length row
 row_long polygons c row s is =
     subst (λ n. c.side < n)
@@ -68,6 +72,7 @@ pub record IsPosition (polygons : List (List Side)) (c : Corner) (at : V2) : Typ
   pub corner : IsInPolygon polygons c
   pub is : at ≡ corner_position (side_vectors corner.polygon) c.side
 
+-- the item of the row is the position of the corner
 pub is_position : (polygons : List (List Side)) (c : Corner) (row : List V2) (at : V2) → IsInPolygon polygons c → row ≡ get_or (all_positions (map side_vectors polygons)) c.polygon row
     → at ≡ get_or row c.side at → IsPosition polygons c at
 is_position polygons c row at s row_at at_is =
@@ -79,9 +84,11 @@ is_position polygons c row at s row_at at_is =
           ∙ get_or-positions_from vector_zero (side_vectors s.polygon) c.side at long;
     }
 
+-- the position of a corner is the sum of the sides before it
 pub position_is : (polygons : List (List Side)) (c : Corner) (at : V2) → IsPosition polygons c at → IfSome (slice_get polygons c.polygon) (λ polygon. at ≡ corner_position (side_vectors polygon) c.side)
 position_is polygons c at p = subst (λ o. IfSome o (λ polygon. at ≡ corner_position (side_vectors polygon) c.side)) (sym p.corner.is) p.is
 
+-- corner 0 is at (0,0)
 pub first_position : (polygons : List (List Side)) (c : Corner) (at : V2) → IsPosition polygons c at → c.side ≡ 0 → at ≡ vector_zero
 first_position polygons c at p e = p.is ∙ ap (λ j. corner_position (side_vectors p.corner.polygon) j) e
 
@@ -107,6 +114,7 @@ leads_on d polygon j at (Some side) p is e = (
   (λ last. ap (λ a. vector_add a side.vector) is ∙ last_in d polygon j side p e last),
 )
 
+-- a side leads to the position of the next corner
 pub next_position : (s : GluedPolygons) (c : Corner) (at : V2) → IsSurface s → IsPosition s.polygons c at
     → IfSome (slice_get s.polygons c.polygon) (λ polygon. IfSome (slice_get polygon c.side) (λ side.
     (c.side + 1 < length polygon → vector_add at side.vector ≡ corner_position (side_vectors polygon) (c.side + 1))

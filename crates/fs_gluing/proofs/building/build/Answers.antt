@@ -1,3 +1,4 @@
+-- The steps of `build` in their order: each stops with the first failed test of the shape, or passes.
 use Rattle.std.proofs.Common.{◌≡◌, ◌⊎◌, List, [], ap, ◌∙◌, subst}
 use Rattle.std.specs.BTreeMap.{get}
 use Rattle.std.specs.List.{AllByRecursion}

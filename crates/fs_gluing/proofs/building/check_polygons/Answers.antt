@@ -1,3 +1,4 @@
+-- The polygons are tested one after another, up to the first that fails.
 use Rattle.std.proofs.Common.{◌≡◌, ◌⊎◌, inl, inr, List, arith, ap, length}
 use Rattle.std.specs.Result.{IfErr}
 use Rattle.fs_gluing.specs.declared.shapes.Glue.{Glue}

@@ -1,3 +1,4 @@
+-- The polygons before i pass, and the list has the positions of their corners.
 use Rattle.fs_gluing.proofs.Polygon.PolygonsInTurn.{PassesPolygonsUpTo}
 use Rattle.fs_gluing.proofs.building.check_polygons.Given as goal
 

@@ -1,3 +1,4 @@
+-- The sides get their partners one after another.
 use Rattle.std.proofs.Common.{sym, subst}
 use Rattle.std.specs.BTreeMap.{get}
 use Rattle.fs_gluing.specs.Gluing.{corner_cmp}

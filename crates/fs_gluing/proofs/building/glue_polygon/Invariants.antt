@@ -1,3 +1,4 @@
+-- The sides before j have partners, and the row has them.
 use Rattle.std.specs.BTreeMap.{get}
 use Rattle.fs_gluing.specs.Gluing.{corner_cmp}
 use Rattle.fs_gluing.proofs.Glue.GluedSides.{GluesSidesUpTo}

@@ -1,3 +1,4 @@
+-- The polygons are glued one after another, up to the first side without a partner.
 use Rattle.std.proofs.Common.{◌≡◌, ◌⊎◌, inl, inr, sym, subst}
 use Rattle.std.specs.BTreeMap.{get}
 use Rattle.std.specs.Option.{IsSome}

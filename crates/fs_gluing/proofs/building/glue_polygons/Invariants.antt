@@ -1,3 +1,4 @@
+-- The sides of the polygons before i have partners, and the rows have them.
 use Rattle.std.specs.BTreeMap.{get}
 use Rattle.fs_gluing.specs.Gluing.{corner_cmp}
 use Rattle.fs_gluing.proofs.Glue.GluedSides.{GluesPolygonsUpTo}

@@ -1,3 +1,4 @@
+-- The lines are tested one after another, up to the first that fails.
 use Rattle.std.proofs.Common.{◌≡◌, ◌⊎◌, inr, [], take, refl}
 use Rattle.std.specs.BTreeMap.{get}
 use Rattle.std.specs.Result.{IfErr}

@@ -1,3 +1,4 @@
+-- The lines before this one pass, and the map has the partners from them.
 use Rattle.std.specs.BTreeMap.{get}
 use Rattle.fs_gluing.specs.Gluing.{corner_cmp}
 use Rattle.fs_gluing.proofs.Glue.GlueLines.{PassesLinesUpTo}

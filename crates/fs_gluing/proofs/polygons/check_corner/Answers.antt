@@ -1,3 +1,4 @@
+-- A corner passes, is not strictly convex, or its cross product overflows.
 use Rattle.std.proofs.Common.{sym, ◌∙◌}
 use Rattle.fs_gluing.proofs.Polygon.ConvexCorners.{greater_from_eq, not_greater_from_eq, corner_passes, corner_not_convex, corner_overflows}
 use Rattle.fs_gluing.proofs.polygons.check_corner.Goals as goal

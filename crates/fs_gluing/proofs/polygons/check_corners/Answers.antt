@@ -1,3 +1,4 @@
+-- The corners are tested one after another, up to the first that fails.
 use Rattle.std.specs.Result.{IfErr}
 use Rattle.fs_gluing.specs.FirstFault.{PassesIn, corner_tests}
 use Rattle.fs_gluing.specs.Convex.{corners_of}

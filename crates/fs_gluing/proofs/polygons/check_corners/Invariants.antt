@@ -1,3 +1,4 @@
+-- The corners before j pass.
 use Rattle.fs_gluing.proofs.Polygon.ConvexCorners.{PassesCornersUpTo}
 use Rattle.fs_gluing.proofs.polygons.check_corners.Given as goal
 

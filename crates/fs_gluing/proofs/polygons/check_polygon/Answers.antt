@@ -1,3 +1,4 @@
+-- The tests of a polygon in their order, up to the first that fails.
 use Rattle.std.proofs.Common.{◌≡◌, ◌⊎◌, inl, inr, sym, ◌∙◌}
 use Rattle.std.specs.Result.{IfErr}
 use Rattle.fs_gluing.specs.declared.faults.BuildStop.{BuildStop}

@@ -1,3 +1,4 @@
+-- The rises at the corners before this one are counted.
 use Rattle.fs_gluing.proofs.Polygon.ConvexCorners.{CountsRisesUpTo}
 use Rattle.fs_gluing.proofs.polygons.count_rises.Given as goal
 

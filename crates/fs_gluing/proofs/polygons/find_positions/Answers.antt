@@ -1,3 +1,4 @@
+-- The positions are found side by side, up to the first that overflows; then the polygon closes or not.
 use Rattle.std.proofs.Common.{inr, arith}
 use Rattle.fs_plane.specs.Vector.{vector_zero}
 use Rattle.fs_gluing.proofs.Base.Items.{IsItem}

@@ -1,3 +1,4 @@
+-- The sides before j pass, and the positions of their corners are in the list.
 use Rattle.fs_gluing.proofs.Polygon.Boundary.{HasPositionsUpTo}
 use Rattle.fs_gluing.proofs.polygons.find_positions.Given as goal
 

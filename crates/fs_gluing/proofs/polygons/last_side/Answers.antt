@@ -1,3 +1,4 @@
+-- The last item of the slice is the last side.
 use Rattle.std.proofs.Common.{ap, ◌∙◌, unwrap_or}
 use Rattle.fs_plane.specs.Vector.{vector_zero}
 use Rattle.fs_gluing.proofs.Polygon.ConvexCorners.{last_side_is}

@@ -1,3 +1,4 @@
+-- The polygons before i are reached.
 use Rattle.std.proofs.Common.{◌-◌, length}
 use Rattle.std.specs.List.{range_with_len}
 use Rattle.fs_gluing.specs.TestsInOrder.{PassesBefore}

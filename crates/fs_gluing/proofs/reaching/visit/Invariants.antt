@@ -1,3 +1,4 @@
+-- The polygons of the partners of the sides so far are marked.
 use Rattle.std.proofs.Common.{take}
 use Rattle.fs_gluing.specs.SearchMarks.{MarksPolygons, partner_polygons}
 use Rattle.fs_gluing.proofs.reaching.visit.Given as goal

@@ -1,3 +1,4 @@
+-- The polygons come one after another, up to the first whose common denominator overflows.
 use Rattle.std.specs.Result.{IfErr}
 use Rattle.fs_gluing.specs.Scaling.{PassesScale, common_tests, all_numbered}
 use Rattle.fs_gluing.specs.TestsInOrder.{IsFirstStop}

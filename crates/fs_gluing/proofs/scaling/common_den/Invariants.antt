@@ -1,3 +1,4 @@
+-- den is the common denominator of the polygons before i.
 use Rattle.fs_gluing.proofs.Scale.ScalingInTurn.{HasCommonOfPolygons}
 use Rattle.fs_gluing.proofs.scaling.common_den.Given as goal
 

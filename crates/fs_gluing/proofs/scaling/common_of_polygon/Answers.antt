@@ -1,3 +1,4 @@
+-- The sides come one after another, up to the first whose common multiple overflows.
 use Rattle.std.specs.Result.{IfErr}
 use Rattle.fs_gluing.specs.Scaling.{PassesScale, common_tests, numbered_sides}
 use Rattle.fs_gluing.specs.TestsInOrder.{IsFirstStop}

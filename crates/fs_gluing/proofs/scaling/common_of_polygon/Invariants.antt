@@ -1,3 +1,4 @@
+-- den is the common multiple of m and the denominators of the sides before j.
 use Rattle.fs_gluing.proofs.Scale.ScalingInTurn.{HasCommonOfSides}
 use Rattle.fs_gluing.proofs.scaling.common_of_polygon.Given as goal
 

@@ -1,3 +1,4 @@
+-- The denominator of x comes first, then that of y.
 use Rattle.fs_gluing.proofs.Scale.ScalingInTurn.{x_den_fails, y_den_fails}
 use Rattle.fs_gluing.proofs.scaling.common_of_side.Goals as goal
 

@@ -1,3 +1,4 @@
+-- The common denominator is found, then the polygons are scaled.
 use Rattle.std.proofs.Common.{◌≡◌, ◌⊎◌, inl, inr}
 use Rattle.std.specs.Result.{IfErr}
 use Rattle.fs_gluing.specs.declared.faults.BuildStop.{BuildStop}

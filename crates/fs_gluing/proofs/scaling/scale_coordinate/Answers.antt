@@ -1,3 +1,4 @@
+-- The part without √d is scaled, then the part of √d; the first that overflows gives the site.
 use Rattle.std.proofs.Common.{ap, ◌∙◌}
 use Rattle.fs_quadratic.specs.Ring.{Quadratic}
 use Rattle.fs_gluing.proofs.Scale.ScalingInTurn.{factor_passed, part_passed, p_fails, q_fails, part_is_within}

@@ -1,3 +1,4 @@
+-- The sides are scaled one after another, up to the first that overflows.
 use Rattle.std.proofs.Common.{◌≡◌, ◌⊎◌, inr}
 use Rattle.std.specs.Result.{IfErr}
 use Rattle.fs_gluing.specs.declared.faults.BuildStop.{BuildStop}

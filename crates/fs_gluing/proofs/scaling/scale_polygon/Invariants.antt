@@ -1,3 +1,4 @@
+-- The sides before j are scaled.
 use Rattle.fs_gluing.proofs.Scale.ScalingInTurn.{HasScaledSides}
 use Rattle.fs_gluing.proofs.scaling.scale_polygon.Given as goal
 

@@ -1,3 +1,4 @@
+-- The polygons before i are scaled.
 use Rattle.fs_gluing.proofs.Scale.ScalingInTurn.{HasScaledPolygons}
 use Rattle.fs_gluing.proofs.scaling.scale_polygons.Given as goal
 

@@ -1,3 +1,4 @@
+-- x is scaled, then y; the first part that overflows gives the site.
 use Rattle.std.specs.Result.{IfErr}
 use Rattle.std.proofs.Common.{[], ◌∷◌}
 use Rattle.fs_gluing.specs.Scaling.{PassesScale, part_tests, numbered_sides}

@@ -1,3 +1,4 @@
+-- The vertices with a corner before side j of polygon i are found.
 use Rattle.fs_stratum.specs.VerticesFound.{AreFoundBefore}
 use Rattle.fs_stratum.proofs.cones.add_cones.Given as goal
 

@@ -1,3 +1,4 @@
+-- The vertices with a corner before polygon i are found.
 use Rattle.fs_stratum.specs.VerticesFound.{AreFoundBefore}
 use Rattle.fs_stratum.proofs.cones.classes.Given as goal
 

@@ -1,3 +1,4 @@
+-- The corners from the first one up to this one are marked; each step lowers the number of corners without a mark.
 use Rattle.fs_stratum.proofs.VertexMarks.{MarksVertexUpTo, unmarked}
 use Rattle.fs_stratum.proofs.cones.mark_vertex.Given as goal
 

@@ -1,3 +1,4 @@
+-- The polygons before i have rows without marks.
 use Rattle.std.proofs.Common.{◌≡◌, map, take}
 use Rattle.fs_stratum.proofs.MarkRows.{unmarked_rows}
 use Rattle.fs_stratum.proofs.corner_marks.CornerMarks.new.Given as goal
