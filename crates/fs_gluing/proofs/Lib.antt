@@ -2,6 +2,6 @@
 pub mod Base
 pub mod Polygon
 pub mod Scale
-pub mod Surface
-pub mod Glue
+pub mod SurfaceCalls
+pub mod Gluing
 pub mod Outcome

@@ -5,8 +5,7 @@ use Rattle.fs_quadratic.specs.Ring.{Quadratic, quadratic, zero, add}
 use Rattle.fs_plane.specs.declared.sites.Place.{Place}
 use Rattle.fs_plane.specs.declared.sites.Site.{Site}
 use Rattle.fs_plane.specs.declared.sites.Site.TheVariants as sites
-use Rattle.fs_plane.specs.declared.vector.V2.{V2}
-use Rattle.fs_plane.specs.Vector.{vector_of, vector_zero}
+use Rattle.fs_plane.specs.Vector.{vector_zero, PlaneVector}
 use Rattle.fs_plane.specs.Checked.{◌>>=◌, checked_sum}
 use Rattle.fs_plane.specs.Formulas.{cross_after}
 use Rattle.fs_gluing.specs.Positions.{positions_from}
@@ -16,21 +15,21 @@ use Rattle.fs_gluing.specs.Surface.{GluedPolygons, side_vectors}
 pub record Triangle : Type 0 where
   pub polygon : ℕ
   pub corner : ℕ
-  pub one : V2
-  pub two : V2
+  pub one : PlaneVector
+  pub two : PlaneVector
 
 -- the triangles of polygon i at the corners with these positions, the first of which has the number j
-abbrev pub triangles_from : ℕ → ℕ → List V2 → List Triangle
+abbrev pub triangles_from : ℕ → ℕ → List PlaneVector → List Triangle
 triangles_from i j [] = []
 triangles_from i j (one ∷ []) = []
 triangles_from i j (one ∷ (two ∷ positions)) = record { polygon = i; corner = j; one = one; two = two } ∷ triangles_from i (j + 1) (two ∷ positions)
 
 -- the triangles into which its diagonals from corner 0 cut polygon i
-abbrev pub triangles_of : ℕ → List V2 → List Triangle
+abbrev pub triangles_of : ℕ → List PlaneVector → List Triangle
 triangles_of i polygon = triangles_from i 1 (drop 1 (positions_from vector_zero polygon))
 
 -- the triangles of the polygons, the first of which has the number i
-abbrev pub all_triangles : ℕ → List (List V2) → List Triangle
+abbrev pub all_triangles : ℕ → List (List PlaneVector) → List Triangle
 all_triangles i [] = []
 all_triangles i (polygon ∷ polygons) = triangles_of i polygon ++ all_triangles (i + 1) polygons
 
@@ -42,7 +41,7 @@ triangles s = all_triangles 0 (map side_vectors s.polygons)
 
 -- twice the area of a triangle: above 0 where its corners are counterclockwise
 abbrev pub twice_triangle : ℕ → Triangle → Quadratic
-twice_triangle d t = plane.twice_area (quadratic d) (vector_of vector_zero) (vector_of t.one) (vector_of t.two)
+twice_triangle d t = plane.twice_area (quadratic d) vector_zero t.one t.two
 
 -- twice the area of all of these
 abbrev pub twice_areas : ℕ → List Triangle → Quadratic

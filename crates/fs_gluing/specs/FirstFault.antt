@@ -1,12 +1,11 @@
 -- What is tested of a shape, in which order, and which fault or overflow a failed test gives.
 use Rattle.std.specs.Prelude.{◌≡◌, ◌≢◌, ℕ, ◌+◌, ◌≤◌, ◌⊎◌, List, [], ◌∷◌, ◌++◌, Option, Some, None, Result, Ok, Err, length, map, Contains}
 use Rattle.std.specs.List.{AllByRecursion, flat_map, range_with_len}
-use Rattle.fs_quadratic.specs.First.{IsFirstWithout}
+use Rattle.fs_lists.specs.First.{IsFirstWithout}
 use Rattle.fs_quadratic.specs.Width.{Fits}
 use Rattle.fs_plane.specs.declared.corners.Corner.{Corner}
 use Rattle.fs_plane.specs.declared.sites.Site.TheVariants as sites
-use Rattle.fs_plane.specs.declared.vector.V2.{V2}
-use Rattle.fs_plane.specs.Vector.{vector_neg}
+use Rattle.fs_plane.specs.Vector.{vector_neg, PlaneVector}
 use Rattle.fs_plane.specs.Checked.{place}
 use Rattle.fs_plane.specs.Formulas.{cross_after}
 use Rattle.fs_gluing.specs.declared.shapes.Glue.{Glue}
@@ -41,7 +40,7 @@ pub data PolygonTest : Type 0 where
   turning_number_one : PolygonTest
 
 -- the polygon passes the test
-abbrev pub PassesIn : ℕ → List V2 → PolygonTest → Type 0
+abbrev pub PassesIn : ℕ → List PlaneVector → PolygonTest → Type 0
 PassesIn d polygon three_sides = 3 ≤ length polygon
 PassesIn d polygon (x_fits j) = Fits (corner_position polygon (j + 1)).x
 PassesIn d polygon (y_fits j) = Fits (corner_position polygon (j + 1)).y
@@ -60,7 +59,7 @@ corner_tests j [] = []
 corner_tests j (corner ∷ rest) = cross_fits j corner 1 ∷ cross_fits j corner 2 ∷ cross_fits j corner 3 ∷ corner_convex j corner ∷ corner_tests (j + 1) rest
 
 -- the tests of a polygon, in order
-abbrev pub polygon_tests : List V2 → List PolygonTest
+abbrev pub polygon_tests : List PlaneVector → List PolygonTest
 polygon_tests polygon = three_sides ∷ (position_tests (length polygon) ++ polygon_closes ∷ (corner_tests 0 (corners_of polygon) ++ turning_number_one ∷ []))
 
 -- ---- one glue line
@@ -75,13 +74,13 @@ pub data LineTest : Type 0 where
   sides_opposite : Glue → LineTest
 
 -- both vectors exist, and the second is the opposite of the first
-abbrev pub AreOpposite : Option V2 → Option V2 → Type 0
+abbrev pub AreOpposite : Option PlaneVector → Option PlaneVector → Type 0
 AreOpposite (Some a) (Some b) = b ≡ vector_neg a
 AreOpposite (Some a) None = ⊥
 AreOpposite None b = ⊥
 
 -- the glue line passes the test
-abbrev pub PassesLine : List (List V2) → LineTest → Type 0
+abbrev pub PassesLine : List (List PlaneVector) → LineTest → Type 0
 PassesLine polygons (sides_exist g) = HasSide polygons g.one × HasSide polygons g.two
 PassesLine polygons (glued_once earlier g) = (g.one ≢ g.two) × (¬ Contains (glued_sides earlier) g.one) × (¬ Contains (glued_sides earlier) g.two)
 PassesLine polygons (sides_opposite g) = AreOpposite (at_side polygons g.one) (at_side polygons g.two)
@@ -98,7 +97,7 @@ pub data Test : Type 0 where
   -- while it is scaled
   of_scaling : ScaleTest → Test
   -- of polygon i, which has these sides
-  of_polygon : (i : ℕ) → (polygon : List V2) → PolygonTest → Test
+  of_polygon : (i : ℕ) → (polygon : List PlaneVector) → PolygonTest → Test
   -- of a glue line
   of_line : LineTest → Test
   -- the side is on a glue line
@@ -115,7 +114,7 @@ pub record Joins (glues : List Glue) (i j : ℕ) : Type 0 where
   pub to : two.polygon ≡ j
 
 -- a scaled shape passes the test
-abbrev pub Passes : ℕ → List (List V2) → List Glue → Test → Type 0
+abbrev pub Passes : ℕ → List (List PlaneVector) → List Glue → Test → Type 0
 Passes d polygons glues (of_scaling test) = PassesScale test
 Passes d polygons glues (of_polygon i polygon test) = PassesIn d polygon test
 Passes d polygons glues (of_line test) = PassesLine polygons test
@@ -123,12 +122,12 @@ Passes d polygons glues (side_glued c) = Contains (glued_sides glues) c
 Passes d polygons glues (polygon_reached i) = IsReached (Joins glues) i
 
 -- the tests of polygons, the first of which has the number i
-abbrev pub tests_from : ℕ → List (List V2) → List Test
+abbrev pub tests_from : ℕ → List (List PlaneVector) → List Test
 tests_from i [] = []
 tests_from i (polygon ∷ polygons) = map (of_polygon i polygon) (polygon_tests polygon) ++ tests_from (i + 1) polygons
 
 -- the tests of a scaled shape, in order: the polygons, the glue lines, the sides, and the polygons once more
-abbrev pub tests : List (List V2) → List Glue → List Test
+abbrev pub tests : List (List PlaneVector) → List Glue → List Test
 tests polygons glues =
     tests_from 0 polygons
     ++ (map of_line (line_tests [] glues)

@@ -3,8 +3,8 @@ use Rattle.std.specs.Prelude.{◌≡◌, ◌⊎◌, ℕ, ◌+◌, Option, Some, 
 use Rattle.std.specs.declared.cmp.Ordering.{Ordering}
 use Rattle.std.specs.Ordering.{nat_cmp, ordering_then}
 use Rattle.std.specs.List.{AllByRecursion, range_with_len}
+use Rattle.fs_plane.specs.Vector.{PlaneVector}
 use Rattle.fs_plane.specs.declared.corners.Corner.{Corner}
-use Rattle.fs_plane.specs.declared.vector.V2.{V2}
 use Rattle.fs_gluing.specs.declared.shapes.Glue.{Glue}
 use Rattle.fs_gluing.specs.declared.surfaces.Side.{Side}
 
@@ -27,12 +27,12 @@ abbrev pub sides_between : ℕ → ℕ → ℕ → List Corner
 sides_between i j n = map (λ k. record { polygon = i; side = k }) (range_with_len j n)
 
 -- the sides of polygon i from side j on, with the partners that p gives; a side without a partner gets itself
-abbrev pub glued_polygon : (Corner → Option Corner) → ℕ → ℕ → List V2 → List Side
+abbrev pub glued_polygon : (Corner → Option Corner) → ℕ → ℕ → List PlaneVector → List Side
 glued_polygon p i j [] = []
 glued_polygon p i j (vector ∷ vectors) =
     record { vector = vector; partner = unwrap_or (p (record { polygon = i; side = j })) (record { polygon = i; side = j }) } ∷ glued_polygon p i (j + 1) vectors
 
 -- the polygons from polygon i on, with the partners that p gives
-abbrev pub glued_polygons : (Corner → Option Corner) → ℕ → List (List V2) → List (List Side)
+abbrev pub glued_polygons : (Corner → Option Corner) → ℕ → List (List PlaneVector) → List (List Side)
 glued_polygons p i [] = []
 glued_polygons p i (polygon ∷ polygons) = glued_polygon p i 0 polygon ∷ glued_polygons p (i + 1) polygons

@@ -1,4 +1,5 @@
 -- The definitions of fs_gluing: surfaces, what they are built from, and which faults a shape has.
+pub mod Limits
 pub mod Polygons
 pub mod Convex
 pub mod Reached

@@ -1,9 +1,9 @@
 -- One denominator for all coordinates of a shape.
 use Rattle.std.specs.Prelude.{ℕ, ℤ, pos, ◌+◌, ◌*◌, ◌/◌, ◌*ℤ◌, List, [], ◌∷◌, ◌++◌, map}
+use Rattle.fs_plane.specs.Vector.{PlaneVector}
 use Rattle.fs_quadratic.specs.Width.{InWidth}
 use Rattle.fs_fraction.specs.Divisor.{gcd}
 use Rattle.fs_fraction.specs.Fraction.{scale}
-use Rattle.fs_plane.specs.declared.vector.V2.{V2}
 use Rattle.fs_gluing.specs.declared.shapes.Point.{Point}
 
 -- a side of a shape: its polygon, its number there, and its unscaled vector
@@ -40,11 +40,11 @@ abbrev pub common_den : List (List Point) → ℕ
 common_den polygons = common_from 1 (all_numbered polygons)
 
 -- a vector times a multiple of its denominators
-abbrev pub scaled_vector : ℕ → Point → V2
+abbrev pub scaled_vector : ℕ → Point → PlaneVector
 scaled_vector den point = record { x = scale (den / point.x.den) point.x.num; y = scale (den / point.y.den) point.y.num }
 
 -- the polygons times their common denominator
-abbrev pub scaled : List (List Point) → List (List V2)
+abbrev pub scaled : List (List Point) → List (List PlaneVector)
 scaled polygons = map (map (scaled_vector (common_den polygons))) polygons
 
 -- what is tested while a shape is scaled, for side j of polygon i

@@ -1,10 +1,10 @@
 -- Translation surfaces: polygons with a gluing.
 use Rattle.std.specs.Prelude.{◌≡◌, ◌≢◌, ℕ, ℤ, pos, ◌<◌, ◌≤◌, ◌<ℤ◌, List, Some, length, map, sum_by}
 use Rattle.std.specs.List.{AllByRecursion}
+use Rattle.fs_gluing.specs.Limits.{most_polygons, most_sides}
 use Rattle.fs_quadratic.specs.Radicand.{IsRadicand}
 use Rattle.fs_plane.specs.declared.corners.Corner.{Corner}
-use Rattle.fs_plane.specs.declared.vector.V2.{V2}
-use Rattle.fs_plane.specs.Vector.{vector_neg}
+use Rattle.fs_plane.specs.Vector.{vector_neg, PlaneVector}
 use Rattle.fs_gluing.specs.declared.surfaces.Side.{Side}
 use Rattle.fs_gluing.specs.Convex.{IsClosed, IsStrictlyConvex, HasTurningNumberOne, corners_of}
 use Rattle.fs_gluing.specs.Polygons.{at_side}
@@ -17,11 +17,11 @@ pub record GluedPolygons : Type 0 where
   pub polygons : List (List Side)
 
 -- the vectors of a polygon's sides
-abbrev pub side_vectors : List Side → List V2
+abbrev pub side_vectors : List Side → List PlaneVector
 side_vectors polygon = map (λ side. side.vector) polygon
 
 -- a polygon: it has three sides or more, closes, is strictly convex at each corner, and has turning number 1
-pub record IsPolygon (d : ℕ) (polygon : List V2) : Type 0 where
+pub record IsPolygon (d : ℕ) (polygon : List PlaneVector) : Type 0 where
   pub three : 3 ≤ length polygon
   pub closed : IsClosed polygon
   pub convex : AllByRecursion (IsStrictlyConvex d) (corners_of polygon)
@@ -45,8 +45,8 @@ pub record IsSurface (s : GluedPolygons) : Type 0 where
   pub radicand : IsRadicand s.d
   pub den : pos 0 <ℤ s.den
   pub some_polygon : 0 < length s.polygons
-  pub polygons : length s.polygons ≤ 256
-  pub sides : sum_by length s.polygons ≤ 1024
+  pub polygons : length s.polygons ≤ most_polygons
+  pub sides : sum_by length s.polygons ≤ most_sides
   pub each : AllByRecursion (λ polygon. IsPolygon s.d (side_vectors polygon)) s.polygons
   pub glued : (c : Corner) (side : Side) → at_side s.polygons c ≡ Some side → IsGlued s.polygons c side
   pub connected : (k : ℕ) → k < length s.polygons → IsReached (AreNeighbours s.polygons) k

@@ -1,7 +1,7 @@
 -- A list of tests in its order: how far it passes, and the stop of the first that fails. Only proofs and inner calls of this crate cite it; the contract of `flat` doesn't rest on it.
 use Rattle.std.specs.Prelude.{◌≡◌, List, ◌++◌}
 use Rattle.std.specs.List.{AllByRecursion}
-use Rattle.fs_quadratic.specs.First.{IsFirstWithout}
+use Rattle.fs_lists.specs.First.{IsFirstWithout}
 use Rattle.fs_gluing.specs.declared.faults.BuildStop.{BuildStop}
 
 -- the rest is a suffix of the tests, and all tests before it pass

@@ -3,6 +3,7 @@
 ghost use Rattle.std.specs.Prelude.{◌≡◌, ◌<◌, ◌≤◌, [], ◌∷◌, IfOk, IfSome, length, drop};
 ghost use Rattle.std.specs.List.{slice_get};
 ghost use Rattle.fs_quadratic.specs.Ring.{zero};
+ghost use Rattle.fs_gluing.specs.Limits.{most_sides};
 ghost use Rattle.fs_gluing.specs.Area.{triangles, triangles_from, triangles_of, twice_area, sum_after};
 ghost use Rattle.fs_gluing.specs.Surface.{side_vectors};
 
@@ -39,15 +40,12 @@ impl Surface {
 
 // A sum and the triangles of polygon i, whose corners have these positions.
 fn add_triangles(field: Field, sum: Elem, i: u16, positions: &[V2]) -> Result<Elem, Site>
-    requires { length positions.now ≤ 1024 }
+    requires { length positions.now ≤ most_sides }
     ensures { result ≡ sum_after field.d sum (triangles_from i 1 (drop 1 positions.now)) }
 {
     let mut total = sum;
     for j in 2..positions.len() {
-        let corner = Corner {
-            polygon: i,
-            side: j as u16 - 1,
-        };
+        let corner = Corner::new(i, j as u16 - 1);
         total = add_triangle(field, total, corner, positions[j - 1], positions[j])?;
     }
     Ok(total)
@@ -57,20 +55,11 @@ fn add_triangles(field: Field, sum: Elem, i: u16, positions: &[V2]) -> Result<El
 fn add_triangle(field: Field, sum: Elem, corner: Corner, one: V2, two: V2) -> Result<Elem, Site>
     ensures { result ≡ sum_after field.d sum (record { polygon = corner.polygon; corner = corner.side; one = one; two = two } ∷ []) }
 {
-    let (polygon, side) = (u32::from(corner.polygon), u32::from(corner.side));
     match cross(field, one, two) {
         Ok(part) => match sum.add(part) {
             Ok(next) => Ok(next),
-            Err(_) => Err(Site::Area {
-                polygon,
-                corner: side,
-                place: 4,
-            }),
+            Err(_) => Err(Site::triangle(corner, 4)),
         },
-        Err(Place(place)) => Err(Site::Area {
-            polygon,
-            corner: side,
-            place,
-        }),
+        Err(Place(place)) => Err(Site::triangle(corner, place)),
     }
 }

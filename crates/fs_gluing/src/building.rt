@@ -3,7 +3,7 @@
 ghost use Rattle.std.specs.Prelude.{◌≡◌, ◌⊎◌, ◌≤◌, ◌<◌, ℕ, List, Err, length, map, Some, IsSome, IfOk, OnOk, IfErr};
 ghost use Rattle.std.specs.List.{AllByRecursion};
 ghost use Rattle.std.specs.BTreeMap.{get};
-ghost use Rattle.fs_plane.specs.declared.vector.V2.{V2};
+ghost use Rattle.fs_gluing.specs.Limits.{most_polygons, most_sides};
 ghost use Rattle.fs_gluing.specs.declared.faults.BuildStop.{BuildStop};
 ghost use Rattle.fs_gluing.specs.declared.shapes.Glue.{Glue};
 ghost use Rattle.fs_gluing.specs.Polygons.{all_sides};
@@ -24,6 +24,7 @@ use crate::shapes::Shape;
 use crate::surfaces::{Side, Surface};
 use fs_plane::{Corner, V2};
 use fs_quadratic::Field;
+use fs_quadratic::width::signed;
 use std::alloc::Global;
 use std::collections::BTreeMap;
 
@@ -54,7 +55,7 @@ pub fn build(alloc: Global, field: Field, shape: &Shape) -> Result<Surface, Buil
     let partners = pair_sides(alloc, &scaled.polygons, shape.glues.as_slice())?;
     let glued = glue_polygons(alloc, &scaled.polygons, &partners)?;
     check_reached(alloc, &glued)?;
-    Ok(Surface::new(field, scaled.den, glued, positions))
+    Ok(Surface::new(field, signed(scaled.den), glued, positions))
 }
 
 // The positions of all corners, where each polygon passes its tests.
@@ -63,8 +64,8 @@ fn check_polygons(
     field: Field,
     polygons: &Sequence<Sequence<V2>>,
 ) -> Result<Sequence<Sequence<V2>>, BuildStop>
-    requires few { length polygons.now ≤ 256 }
-    requires short { AllByRecursion (λ polygon. length polygon ≤ 1024) polygons.now }
+    requires few { length polygons.now ≤ most_polygons }
+    requires short { AllByRecursion (λ polygon. length polygon ≤ most_sides) polygons.now }
     ensures passed { OnOk result ((glues : List Glue) → AllByRecursion (Passes field.d polygons.now glues) (tests_from 0 polygons.now)) }
     ensures positions { IfOk result (λ positions. positions ≡ all_positions polygons.now) }
     ensures failed { IfErr result (λ e. (e ≡ BuildStop.NoMemory) ⊎ ((glues : List Glue)
@@ -83,8 +84,8 @@ fn glue_polygons(
     polygons: &Sequence<Sequence<V2>>,
     partners: &BTreeMap<Corner, Corner>,
 ) -> Result<Sequence<Sequence<Side>>, BuildStop>
-    requires few { length polygons.now ≤ 256 }
-    requires short { AllByRecursion (λ polygon. length polygon ≤ 1024) polygons.now }
+    requires few { length polygons.now ≤ most_polygons }
+    requires short { AllByRecursion (λ polygon. length polygon ≤ most_sides) polygons.now }
     ensures glued { IfOk result (λ rows. rows ≡ glued_polygons (get corner_cmp partners.now) 0 polygons.now) }
     ensures passed { OnOk result (AllByRecursion (λ c. IsSome (get corner_cmp partners.now c)) (all_sides polygons.now)) }
     ensures failed { IfErr result (λ e. (e ≡ BuildStop.NoMemory)
@@ -104,7 +105,7 @@ fn glue_polygon(
     sides: &[V2],
     partners: &BTreeMap<Corner, Corner>,
 ) -> Result<Sequence<Side>, BuildStop>
-    requires { length sides.now ≤ 1024 }
+    requires { length sides.now ≤ most_sides }
     ensures glued { IfOk result (λ row. row ≡ glued_polygon (get corner_cmp partners.now) i 0 sides.now) }
     ensures passed { OnOk result (AllByRecursion (λ c. IsSome (get corner_cmp partners.now c)) (sides_between i 0 (length sides.now))) }
     ensures failed { IfErr result (λ e. (e ≡ BuildStop.NoMemory)
@@ -112,10 +113,7 @@ fn glue_polygon(
 {
     let mut row = Sequence::new(alloc);
     for (j, vector) in sides.iter().enumerate() {
-        let corner = Corner {
-            polygon: i,
-            side: j as u16,
-        };
+        let corner = Corner::new(i, j as u16);
         let Some(partner) = partners.get(&corner) else {
             return Err(BuildStop::Fault(Fault::Unglued(corner)));
         };

@@ -3,7 +3,7 @@
 ghost use Rattle.std.specs.Prelude.{◌≡◌, ◌⊎◌, ◌↔◌, List, [], ◌∷◌, ◌++◌, IsTrue, Some, IfOk, OnOk, IfErr};
 ghost use Rattle.std.specs.List.{AllByRecursion};
 ghost use Rattle.std.specs.BTreeMap.{get};
-ghost use Rattle.fs_plane.specs.declared.vector.V2.{V2};
+ghost use Rattle.fs_plane.specs.Vector.{PlaneVector};
 ghost use Rattle.fs_gluing.specs.declared.faults.BuildStop.{BuildStop};
 ghost use Rattle.fs_gluing.specs.declared.shapes.Glue.{Glue};
 ghost use Rattle.fs_gluing.specs.Polygons.{HasSide, at_side};
@@ -41,7 +41,7 @@ pub fn pair_sides(
 
 // Makes each of the two sides on a glue line the partner of the other.
 fn pair(partners: &mut BTreeMap<Corner, Corner>, glue: &Glue) -> Result<(), AllocError>
-    ensures { OnOk result ((polygons : List (List V2)) → (earlier : List Glue) → ArePartners earlier (get corner_cmp partners.old)
+    ensures { OnOk result ((polygons : List (List PlaneVector)) → (earlier : List Glue) → ArePartners earlier (get corner_cmp partners.old)
         → PassesLine polygons (glued_once earlier glue.now) → ArePartners (earlier ++ glue.now ∷ []) (get corner_cmp partners.new)) }
 {
     partners.insert(glue.one, glue.two)?;

@@ -2,8 +2,8 @@
 
 ghost use Rattle.std.specs.Prelude.{◌≡◌, ℕ, List, [], ◌∷◌, ◌++◌, ◌≤◌, ◌⊎◌, length, IfOk, OnOk, IfErr, count_by};
 ghost use Rattle.std.specs.List.{AllByRecursion};
-ghost use Rattle.fs_plane.specs.declared.vector.V2.{V2};
-ghost use Rattle.fs_plane.specs.Vector.{vector_zero};
+ghost use Rattle.fs_plane.specs.Vector.{PlaneVector, vector_zero};
+ghost use Rattle.fs_gluing.specs.Limits.{most_sides};
 ghost use Rattle.fs_gluing.specs.declared.faults.BuildStop.{BuildStop};
 ghost use Rattle.fs_gluing.specs.Convex.{corners_of, is_rise, last_side};
 ghost use Rattle.fs_gluing.specs.Positions.{positions_from};
@@ -26,7 +26,7 @@ pub fn check_polygon(
     i: u16,
     sides: &[V2],
 ) -> Result<Sequence<V2>, BuildStop>
-    requires { length sides.now ≤ 1024 }
+    requires { length sides.now ≤ most_sides }
     ensures passed { OnOk result (AllByRecursion (PassesIn field.d sides.now) (polygon_tests sides.now)) }
     ensures positions { IfOk result (λ positions. positions ≡ positions_from vector_zero sides.now) }
     ensures failed { IfErr result (λ e. (e ≡ BuildStop.NoMemory)
@@ -45,31 +45,22 @@ pub fn check_polygon(
 
 // The positions of the corners, where none overflows and the polygon closes.
 fn find_positions(alloc: Global, i: u16, sides: &[V2]) -> Result<Sequence<V2>, BuildStop>
-    requires { length sides.now ≤ 1024 }
+    requires { length sides.now ≤ most_sides }
     ensures passed { OnOk result ((d : ℕ) → AllByRecursion (PassesIn d sides.now) (position_tests (length sides.now) ++ polygon_closes ∷ [])) }
     ensures positions { IfOk result (λ positions. positions ≡ positions_from vector_zero sides.now) }
     ensures failed { IfErr result (λ e. (e ≡ BuildStop.NoMemory) ⊎ ((d : ℕ) →
         IsFirstStop (PassesIn d sides.now) (position_tests (length sides.now) ++ polygon_closes ∷ []) (λ test. stop_of (of_polygon i sides.now test)) e)) }
 {
-    let polygon = u32::from(i);
     let mut positions = Sequence::new(alloc);
     let mut position = V2::ZERO;
     for (j, vector) in sides.iter().enumerate() {
-        let side = j as u32;
+        let corner = Corner::new(i, j as u16);
         positions.push(position)?;
         let Ok(x) = position.x.add(vector.x) else {
-            return Err(BuildStop::Overflow(Site::Close {
-                polygon,
-                side,
-                place: 1,
-            }));
+            return Err(BuildStop::Overflow(Site::closing(corner, 1)));
         };
         let Ok(y) = position.y.add(vector.y) else {
-            return Err(BuildStop::Overflow(Site::Close {
-                polygon,
-                side,
-                place: 2,
-            }));
+            return Err(BuildStop::Overflow(Site::closing(corner, 2)));
         };
         position = V2 { x, y };
     }
@@ -81,22 +72,14 @@ fn find_positions(alloc: Global, i: u16, sides: &[V2]) -> Result<Sequence<V2>, B
 
 // That each corner of the polygon with the number i is strictly convex.
 fn check_corners(field: Field, i: u16, sides: &[V2]) -> Result<(), BuildStop>
-    requires { length sides.now ≤ 1024 }
+    requires { length sides.now ≤ most_sides }
     ensures passed { OnOk result (AllByRecursion (PassesIn field.d sides.now) (corner_tests 0 (corners_of sides.now))) }
     ensures failed { IfErr result
         (IsFirstStop (PassesIn field.d sides.now) (corner_tests 0 (corners_of sides.now)) (λ test. stop_of (of_polygon i sides.now test))) }
 {
     let mut before = last_side(sides);
     for (j, after) in sides.iter().enumerate() {
-        check_corner(
-            field,
-            Corner {
-                polygon: i,
-                side: j as u16,
-            },
-            before,
-            *after,
-        )?;
+        check_corner(field, Corner::new(i, j as u16), before, *after)?;
         before = *after;
     }
     Ok(())
@@ -104,25 +87,21 @@ fn check_corners(field: Field, i: u16, sides: &[V2]) -> Result<(), BuildStop>
 
 // That a corner is strictly convex, by the side before it and the side after it.
 fn check_corner(field: Field, corner: Corner, before: V2, after: V2) -> Result<(), BuildStop>
-    ensures passed { OnOk result ((sides : List V2) → AllByRecursion (PassesIn field.d sides)
+    ensures passed { OnOk result ((sides : List PlaneVector) → AllByRecursion (PassesIn field.d sides)
         (corner_tests corner.side (record { before = before; after = after } ∷ []))) }
-    ensures failed { IfErr result (λ e. (sides : List V2) → IsFirstStop (PassesIn field.d sides)
+    ensures failed { IfErr result (λ e. (sides : List PlaneVector) → IsFirstStop (PassesIn field.d sides)
         (corner_tests corner.side (record { before = before; after = after } ∷ [])) (λ test. stop_of (of_polygon corner.polygon sides test)) e) }
 {
     match cross(field, before, after) {
         Ok(product) if field.sign(product) == Ordering::Greater => Ok(()),
         Ok(_) => Err(BuildStop::Fault(Fault::NotConvex(corner))),
-        Err(Place(place)) => Err(BuildStop::Overflow(Site::Corner {
-            polygon: u32::from(corner.polygon),
-            side: u32::from(corner.side),
-            place,
-        })),
+        Err(Place(place)) => Err(BuildStop::Overflow(Site::convexity(corner, place))),
     }
 }
 
 // At how many corners the boundary passes from the lower half to the upper.
 fn count_rises(field: Field, sides: &[V2]) -> usize
-    requires { length sides.now ≤ 1024 }
+    requires { length sides.now ≤ most_sides }
     ensures { result ≡ count_by (is_rise field.d) (corners_of sides.now) }
 {
     let mut before = last_side(sides);

@@ -3,6 +3,7 @@
 ghost use Rattle.std.specs.Prelude.{◌≡◌, ◌⊎◌, ◌<◌, ◌≤◌, Some, length, IfOk, OnOk, IfErr};
 ghost use Rattle.std.specs.List.{AllByRecursion, range_with_len};
 ghost use Rattle.fs_plane.specs.declared.corners.Corner.{Corner};
+ghost use Rattle.fs_gluing.specs.Limits.{most_polygons};
 ghost use Rattle.fs_gluing.specs.declared.faults.BuildStop.{BuildStop};
 ghost use Rattle.fs_gluing.specs.declared.surfaces.Side.{Side};
 ghost use Rattle.fs_gluing.specs.Polygons.{at_side};
@@ -21,7 +22,7 @@ use std::alloc::{AllocError, Global};
 // That each polygon is reached from polygon 0 through glued sides.
 pub fn check_reached(alloc: Global, polygons: &Sequence<Sequence<Side>>) -> Result<(), BuildStop>
     requires some { 0 < length polygons.now }
-    requires few { length polygons.now ≤ 256 }
+    requires few { length polygons.now ≤ most_polygons }
     requires glued { (c : Corner) → (side : Side) → at_side polygons.now c ≡ Some side → IsGlued polygons.now c side }
     ensures passed { OnOk result (AllByRecursion (IsReached (AreNeighbours polygons.now)) (range_with_len 0 (length polygons.now))) }
     ensures failed { IfErr result (λ e. (e ≡ BuildStop.NoMemory)

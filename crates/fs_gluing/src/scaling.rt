@@ -5,6 +5,7 @@ ghost use Rattle.std.specs.List.{AllByRecursion};
 ghost use Rattle.std.specs.Option.{SomeIff};
 ghost use Rattle.fs_quadratic.specs.Width.{InWidth};
 ghost use Rattle.fs_fraction.specs.Fraction.{scale};
+ghost use Rattle.fs_gluing.specs.Limits.{most_polygons, most_sides};
 ghost use Rattle.fs_gluing.specs.declared.faults.BuildStop.{BuildStop};
 ghost use Rattle.fs_gluing.specs.Scaling.{common_den, common_from, common_multiple, common_tests, part_tests, all_numbered, numbered_sides, scaled_vector, scale_tests, PassesScale};
 ghost use Rattle.fs_gluing.specs.Scaling.ScaleTest.{part_fits};
@@ -19,15 +20,13 @@ use crate::shapes::{Point, Shape};
 use fs_fraction::{Frac, greatest_divisor};
 use fs_plane::{Corner, Site, V2};
 use fs_quadratic::Elem;
+use fs_quadratic::width::{checked_natural_product, checked_product, signed};
 use std::alloc::Global;
-
-// The greatest number of the width.
-const GREATEST: u128 = (1 << 127) - 1;
 
 // Polygons by their side vectors, which are multiplied by one denominator.
 #[derive(Drop)]
 pub struct Scaled {
-    pub den: i128,
+    pub den: u128,
     pub polygons: Sequence<Sequence<V2>>,
 }
 
@@ -35,25 +34,22 @@ pub struct Scaled {
 pub fn scale(alloc: Global, shape: &Shape) -> Result<Scaled, BuildStop>
     requires { IsWithinLimits shape.now }
     ensures passed { OnOk result (AllByRecursion PassesScale (scale_tests shape.now.polygons)) }
-    ensures den { IfOk result (λ s. s.den ≡ pos (common_den shape.now.polygons)) }
+    ensures den { IfOk result (λ s. s.den ≡ common_den shape.now.polygons) }
     ensures polygons { IfOk result (λ s. s.polygons ≡ polygons_of shape.now) }
-    ensures positive { IfOk result (λ s. pos 0 <ℤ s.den) }
-    ensures within { IfOk result (λ s. InWidth s.den) }
+    ensures positive { IfOk result (λ s. 0 < s.den) }
+    ensures within { IfOk result (λ s. s.den < 2 ^ 127) }
     ensures failed { IfErr result (λ e. (e ≡ BuildStop.NoMemory)
         ⊎ IsFirstStop PassesScale (scale_tests shape.now.polygons) (λ test. stop_of (of_scaling test)) e) }
 {
     let den = common_den(&shape.polygons)?;
     let polygons = scale_polygons(alloc, den, &shape.polygons)?;
-    Ok(Scaled {
-        den: den as i128,
-        polygons,
-    })
+    Ok(Scaled { den, polygons })
 }
 
 // The common denominator of all coordinates of the polygons.
 fn common_den(polygons: &Sequence<Sequence<Point>>) -> Result<u128, BuildStop>
-    requires few { length polygons.now ≤ 256 }
-    requires short { AllByRecursion (λ polygon. length polygon ≤ 1024) polygons.now }
+    requires few { length polygons.now ≤ most_polygons }
+    requires short { AllByRecursion (λ polygon. length polygon ≤ most_sides) polygons.now }
     ensures passed { OnOk result (AllByRecursion PassesScale (common_tests 1 (all_numbered polygons.now))) }
     ensures value { IfOk result (λ den. den ≡ common_den polygons.now) }
     ensures positive { IfOk result (λ den. 0 < den) }
@@ -69,7 +65,7 @@ fn common_den(polygons: &Sequence<Sequence<Point>>) -> Result<u128, BuildStop>
 
 // The common multiple of m and the denominators of the polygon with the number i.
 fn common_of_polygon(m: u128, i: u16, points: &[Point]) -> Result<u128, BuildStop>
-    requires short { length points.now ≤ 1024 }
+    requires short { length points.now ≤ most_sides }
     requires positive { 0 < m }
     requires within { m < 2 ^ 127 }
     ensures passed { OnOk result (AllByRecursion PassesScale (common_tests m (numbered_sides i 0 points.now))) }
@@ -80,14 +76,7 @@ fn common_of_polygon(m: u128, i: u16, points: &[Point]) -> Result<u128, BuildSto
 {
     let mut den = m;
     for (j, point) in points.iter().enumerate() {
-        den = common_of_side(
-            den,
-            Corner {
-                polygon: i,
-                side: j as u16,
-            },
-            *point,
-        )?;
+        den = common_of_side(den, Corner::new(i, j as u16), *point)?;
     }
     Ok(den)
 }
@@ -117,11 +106,8 @@ fn common_multiple(m: u128, x: Frac) -> Option<u128>
     ensures positive { IfSome result (λ den. 0 < den) }
     ensures within { IfSome result (λ den. den < 2 ^ 127) }
 {
-    let n = x.den().unsigned_abs();
-    match m.checked_mul(n / greatest_divisor(m, n)) {
-        Some(multiple) if multiple <= GREATEST => Some(multiple),
-        _ => None,
-    }
+    let n = x.denominator();
+    checked_natural_product(m, n / greatest_divisor(m, n))
 }
 
 // The polygons times den, a multiple of all their denominators.
@@ -131,8 +117,8 @@ fn scale_polygons(
     polygons: &Sequence<Sequence<Point>>,
 ) -> Result<Sequence<Sequence<V2>>, BuildStop>
     requires within { den < 2 ^ 127 }
-    requires few { length polygons.now ≤ 256 }
-    requires short { AllByRecursion (λ polygon. length polygon ≤ 1024) polygons.now }
+    requires few { length polygons.now ≤ most_polygons }
+    requires short { AllByRecursion (λ polygon. length polygon ≤ most_sides) polygons.now }
     ensures passed { OnOk result (AllByRecursion PassesScale (part_tests den (all_numbered polygons.now))) }
     ensures scaled { IfOk result (λ rows. rows ≡ map (map (scaled_vector den)) polygons.now) }
     ensures failed { IfErr result (λ e. (e ≡ BuildStop.NoMemory)
@@ -153,7 +139,7 @@ fn scale_polygon(
     points: &[Point],
 ) -> Result<Sequence<V2>, BuildStop>
     requires within { den < 2 ^ 127 }
-    requires short { length points.now ≤ 1024 }
+    requires short { length points.now ≤ most_sides }
     ensures passed { OnOk result (AllByRecursion PassesScale (part_tests den (numbered_sides i 0 points.now))) }
     ensures scaled { IfOk result (λ row. row ≡ map (scaled_vector den) points.now) }
     ensures failed { IfErr result (λ e. (e ≡ BuildStop.NoMemory)
@@ -161,14 +147,7 @@ fn scale_polygon(
 {
     let mut row = Sequence::new(alloc);
     for (j, point) in points.iter().enumerate() {
-        row.push(scale_side(
-            den,
-            Corner {
-                polygon: i,
-                side: j as u16,
-            },
-            *point,
-        )?)?;
+        row.push(scale_side(den, Corner::new(i, j as u16), *point)?)?;
     }
     Ok(row)
 }
@@ -212,26 +191,12 @@ fn factor(den: u128, x: Frac) -> i128
     requires { den < 2 ^ 127 }
     ensures { result ≡ pos (den / x.den) }
 {
-    (den / x.den().unsigned_abs()) as i128
-}
-
-// The product, where it is within the width.
-fn checked_product(a: i128, b: i128) -> Option<i128>
-    ensures { SomeIff result (InWidth (a *ℤ b)) (a *ℤ b) }
-{
-    match a.checked_mul(b) {
-        Some(product) if product != i128::MIN => Some(product),
-        _ => None,
-    }
+    signed(den / x.denominator())
 }
 
 // Scaling overflows at this place of a side.
 fn overflow(corner: Corner, place: u32) -> BuildStop
     ensures { result ≡ BuildStop.Overflow (Site.Scale corner.polygon corner.side place) }
 {
-    BuildStop::Overflow(Site::Scale {
-        polygon: u32::from(corner.polygon),
-        side: u32::from(corner.side),
-        place,
-    })
+    BuildStop::Overflow(Site::scaling(corner, place))
 }

@@ -152,7 +152,7 @@ impl Surface {
 
     /// The next corner counterclockwise round the vertex of a corner: the start of the side that
     /// the side before the corner is glued to.
-    #[tactic(auto, using(crate::proofs::Surface::NextCorner::has_before))]
+    #[tactic(auto, using(crate::proofs::SurfaceCalls::NextCorner::has_before))]
     pub fn turn(&self, c: Corner) -> Corner
         requires { HasSide self.now.polygons c }
         ensures turn { IsNextCorner self.now.polygons c result }
@@ -177,10 +177,7 @@ impl Surface {
             0 => self.sides(c.polygon) - 1,
             side => side - 1,
         };
-        Corner {
-            polygon: c.polygon,
-            side,
-        }
+        Corner::new(c.polygon, side)
     }
 
     // The side that starts at a corner.

@@ -6,10 +6,12 @@ use Rattle.std.proofs.lemmas.List.FromFn.{length-map-range_with_len}
 use Rattle.std.proofs.lemmas.List.Sums.{sum_by-cons}
 use Rattle.std.specs.Option.{IsSome}
 use Rattle.std.specs.List.{slice_get, range_with_len}
+use Rattle.fs_lists.proofs.Items.{inside_of_some, some_of_inside}
 use Rattle.fs_plane.specs.declared.corners.Corner.{Corner}
 use Rattle.fs_gluing.specs.Polygons.{HasSide, sides_from, all_sides}
-use Rattle.fs_cycles.specs.Cycles.{IsIn, IsDistinct, IsDecidable}
-use Rattle.fs_cycles.proofs.Lists.{in_append_left, in_append_right, in_append_cases, apart_append, in_map, in_map_cases, apart_map, in_range, range_bounds, range_distinct}
+use Rattle.fs_lists.specs.Members.{IsIn, IsDistinct, IsDecidable}
+use Rattle.fs_lists.proofs.Members.{in_append_left, in_append_right, in_append_cases, apart_append, in_map, in_map_cases, apart_map}
+use Rattle.fs_lists.proofs.Ranges.{in_range, range_bounds, range_distinct}
 
 -- the corner with these numbers
 abbrev pub corner : ℕ → ℕ → Corner
@@ -44,17 +46,6 @@ row_in i a n c h =
 
 row_distinct : (i a n : ℕ) → IsDistinct (row i a n)
 row_distinct i a n = apart_map (corner i) (λ x y. x ≡ y) (λ x y. x ≡ y) (range_with_len a n) (λ x w h k e. ap (λ (c : Corner). c.side) e) (range_distinct a n)
-
-inside_of_some : {X : Type 0} (xs : List X) (j : ℕ) → IsSome (slice_get xs j) → j < length xs
-inside_of_some [] j h = cc
-inside_of_some (x ∷ xs) zero h = omega arith
-inside_of_some (x ∷ xs) (suc j) h = let l = inside_of_some xs j h in omega arith
-
--- within a list there is an item
-pub some_of_inside : {X : Type 0} (xs : List X) (j : ℕ) → j < length xs → IsSome (slice_get xs j)
-some_of_inside [] j l = absurd (omega arith)
-some_of_inside (x ∷ xs) zero l = refl
-some_of_inside (x ∷ xs) (suc j) l = some_of_inside xs j (omega arith)
 
 in_sides_from : {X : Type 0} (i k j : ℕ) (polygons : List (List X)) → HasSide polygons (corner k j) → IsIn (corner (i + k) j) (sides_from i polygons)
 in_sides_from i k j [] h = cc

@@ -14,8 +14,7 @@ use Rattle.fs_quadratic.proofs.SquareRoot.{radicand_no_square}
 use Rattle.fs_quadratic.proofs.Signs.{positive_of_sign, negative_of_sign}
 use Rattle.fs_cycles.proofs.Iterates.{iterate_after}
 use Rattle.fs_plane.specs.declared.corners.Corner.{Corner}
-use Rattle.fs_plane.specs.declared.vector.V2.{V2}
-use Rattle.fs_plane.specs.Vector.{vector_of, vector_neg, vector_zero, cross, is_raised, raised_by_signs}
+use Rattle.fs_plane.specs.Vector.{vector_neg, vector_zero, cross, is_raised, raised_by_signs, PlaneVector}
 use Rattle.fs_plane.proofs.Geometry.{cross_trans, cross_self}
 use Rattle.fs_gluing.specs.declared.surfaces.Side.{Side}
 use Rattle.fs_gluing.specs.Polygons.{at_side, HasSide, all_sides}
@@ -31,7 +30,7 @@ use Rattle.fs_stratum.proofs.CornerRays.{rays, raised_or, is_ray_raised, next_ra
 -- ---- vectors, each to the left of the one before
 
 -- where a vector and the one to its left are both raised, or both not, it isn't on the line of (1,0)
-module _ {d : ℕ} (radicand : IsRadicand d) (v w : V2) (left : IsPositive d (cross d v w)) where
+module _ {d : ℕ} (radicand : IsRadicand d) (v w : PlaneVector) (left : IsPositive d (cross d v w)) where
   -- both are raised: v points up
   pub above : is_raised d v ≡ true → is_raised d w ≡ true → IsPositive d v.y
   above e f = go (sign d v.y) (sign d v.x) (sign d w.y) refl (convex_signs radicand v w left) e f
@@ -55,27 +54,27 @@ module _ {d : ℕ} (radicand : IsRadicand d) (v w : V2) (left : IsPositive d (cr
       go Equal Greater av is t e f = let up = ap (λ o. raised_by_signs o (sign d w.x)) (t.from_east refl refl) in cc
 
 -- (1,0)
-abbrev east : V2
+abbrev east : PlaneVector
 east = record { x = one; y = nil }
 
 module _ {d : ℕ} (radicand : IsRadicand d) where
-  left_of_east : (v : V2) → IsPositive d v.y → IsPositive d (cross d east v)
-  left_of_east v p = axis.left_of_axis (field_order radicand) (unit_vector (quadratic d)) refl (field_order radicand).one_positive (vector_of v) p
+  left_of_east : (v : PlaneVector) → IsPositive d v.y → IsPositive d (cross d east v)
+  left_of_east v p = axis.left_of_axis (field_order radicand) (unit_vector (quadratic d)) refl (field_order radicand).one_positive v p
 
-  left_of_west : (v : V2) → IsPositive d (neg v.y) → IsPositive d (cross d (vector_neg east) v)
+  left_of_west : (v : PlaneVector) → IsPositive d (neg v.y) → IsPositive d (cross d (vector_neg east) v)
   left_of_west v p =
-      directions.positive_by_plane (field_order radicand) [] (unit_vector (quadratic d) ∷ vector_of v ∷ []) (λ u a. cross_over E (neg_vector E u) a ≐ cross_over E a u) refl
-      (axis.right_of_axis (field_order radicand) (unit_vector (quadratic d)) refl (field_order radicand).one_positive (vector_of v) p)
+      directions.positive_by_plane (field_order radicand) [] (unit_vector (quadratic d) ∷ v ∷ []) (λ u a. cross_over E (neg_vector E u) a ≐ cross_over E a u) refl
+      (axis.right_of_axis (field_order radicand) (unit_vector (quadratic d)) refl (field_order radicand).one_positive v p)
 
   -- ---- on one side of a line such vectors don't return to the first
-  onwards : (w : V2) (f : ℕ → V2) (m : ℕ) → ((i : ℕ) → i ≤ suc m → IsPositive d (cross d w (f i))) → ((i : ℕ) → i ≤ m → IsPositive d (cross d (f i) (f (suc i))))
+  onwards : (w : PlaneVector) (f : ℕ → PlaneVector) (m : ℕ) → ((i : ℕ) → i ≤ suc m → IsPositive d (cross d w (f i))) → ((i : ℕ) → i ≤ m → IsPositive d (cross d (f i) (f (suc i))))
       → (i : ℕ) → i ≤ m → IsPositive d (cross d (f 0) (f (suc i)))
   onwards w f m side left zero l = left 0 (omega arith)
   onwards w f m side left (suc i) l =
       cross_trans radicand w (f 0) (f (suc i)) (f (suc (suc i))) (signs.non_negative_of_positive (field_order radicand) (side 0 (omega arith))) (side (suc i) (omega arith)) (side (suc (suc i)) (omega arith))
       (onwards w f m side left i (omega arith)) (left (suc i) l)
 
-  never_back : (w : V2) (f : ℕ → V2) (m : ℕ) → ((i : ℕ) → i ≤ suc m → IsPositive d (cross d w (f i))) → ((i : ℕ) → i ≤ m → IsPositive d (cross d (f i) (f (suc i))))
+  never_back : (w : PlaneVector) (f : ℕ → PlaneVector) (m : ℕ) → ((i : ℕ) → i ≤ suc m → IsPositive d (cross d w (f i))) → ((i : ℕ) → i ≤ m → IsPositive d (cross d (f i) (f (suc i))))
       → f (suc m) ≡ f 0 → ⊥
   never_back w f m side left same =
       signs.positive-ne-zero (field_order radicand) (subst (λ v. IsPositive d (cross d (f 0) v)) same (onwards w f m side left m (omega arith))) (cross_self d (f 0))
@@ -83,12 +82,12 @@ module _ {d : ℕ} (radicand : IsRadicand d) where
 -- ---- the rays of a vertex
 
 -- the vector of a side, or (0,0) where there is none
-abbrev vector_or : Option Side → V2
+abbrev vector_or : Option Side → PlaneVector
 vector_or None = vector_zero
 vector_or (Some side) = side.vector
 
 -- the ray of a corner: the vector of the side that begins there
-abbrev ray : GluedPolygons → Corner → V2
+abbrev ray : GluedPolygons → Corner → PlaneVector
 ray s c = vector_or (at_side s.polygons c)
 
 ahead-next : (polygons : List (List Side)) (i : ℕ) (c : Corner) → ahead polygons (suc i) c ≡ next polygons (ahead polygons i c)
@@ -103,7 +102,7 @@ module _ (s : GluedPolygons) (surface : IsSurface s) where
       let r = rays s surface c h in
       subst (λ o. IsPositive s.d (cross s.d (vector_or o) (ray s (next s.polygons c)))) (sym r.begins)
       (subst (λ o. IsPositive s.d (cross s.d r.after.vector (vector_or o))) (sym (next_ray s surface c h r))
-      (directions.positive_by_plane (field_order surface.radicand) [] (vector_of r.before.vector ∷ vector_of r.after.vector ∷ []) (λ b a. cross_over E a (neg_vector E b) ≐ cross_over E b a) refl r.left))
+      (directions.positive_by_plane (field_order surface.radicand) [] (r.before.vector ∷ r.after.vector ∷ []) (λ b a. cross_over E a (neg_vector E b) ≐ cross_over E b a) refl r.left))
 
   module _ (c : Corner) (h : HasSide s.polygons c) (none : (e : Corner) → AreOneVertex s.polygons c e → ¬ HoldsEast s e) where
     -- the i-th corner after c

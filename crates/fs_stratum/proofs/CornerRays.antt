@@ -5,11 +5,12 @@ use Rattle.std.proofs.lemmas.Option.{same_Some, slice_get-map}
 use Rattle.std.proofs.lemmas.List.{length-map}
 use Rattle.std.specs.Option.{IsSome, IfSome, option_and_then, option_map}
 use Rattle.std.specs.List.{slice_get, AllByRecursion}
+use Rattle.fs_lists.proofs.All.{All-slice_get}
+use Rattle.fs_lists.proofs.Items.{value_of}
 use Rattle.fs_quadratic.specs.Ring.{IsPositive}
 use Rattle.fs_quadratic.proofs.Laws.{field_order}
 use Rattle.fs_plane.specs.declared.corners.Corner.{Corner}
-use Rattle.fs_plane.specs.declared.vector.V2.{V2}
-use Rattle.fs_plane.specs.Vector.{vector_zero, vector_neg, vector_of, cross, is_raised}
+use Rattle.fs_plane.specs.Vector.{vector_zero, vector_neg, cross, is_raised, PlaneVector}
 use Rattle.fs_gluing.specs.declared.surfaces.Side.{Side}
 use Rattle.fs_gluing.specs.Convex.{CornerSides, corners_of, corners_from, last_side, IsStrictlyConvex}
 use Rattle.fs_gluing.specs.Polygons.{at_side, HasSide}
@@ -17,30 +18,14 @@ use Rattle.fs_gluing.specs.Surface.{GluedPolygons, IsSurface, IsPolygon, side_ve
 use Rattle.fs_gluing.specs.NextCorner.{side_before, side_count, length_or_0}
 use Rattle.fs_gluing.specs.Vertices.{HoldsEast}
 use Rattle.fs_gluing.proofs.Polygon.ConvexCorners.{last_side_is}
-use Rattle.fs_gluing.proofs.Surface.NextCorner.{in_polygon, has_before}
+use Rattle.fs_gluing.proofs.SurfaceCalls.NextCorner.{in_polygon, has_before}
 use Rattle.fs_stratum.proofs.AxisSigns as axis
 use Rattle.fs_stratum.proofs.SectorOfEast.{is_held, raised-neg, holds_from_test, test_from_holds}
 use Rattle.fs_stratum.proofs.VertexOrbits.{next, partner_or}
 
--- the value of an option
-pub record Value {X : Type 0} (o : Option X) : Type 0 where
-  pub value : X
-  pub is : o ≡ Some value
-
--- an option that is some has a value
-pub value_of : {X : Type 0} (o : Option X) → IsSome o → Value o
-value_of None h = cc
-value_of (Some x) h = record { value = x; is = refl }
-
--- what holds of all items holds of the one at index k
-pub all_at : {X : Type 0} (P : X → Type 0) (xs : List X) (k : ℕ) (x : X) → AllByRecursion P xs → slice_get xs k ≡ Some x → P x
-all_at P [] k x a e = cc
-all_at P (y ∷ xs) zero x a e = subst P (same_Some y x e) a.0
-all_at P (y ∷ xs) (suc k) x a e = all_at P xs k x a.1 e
-
 -- ---- the corners of a polygon by their numbers
 
-corner_at : (P : CornerSides → Type 0) (b : V2) (sides : List V2) (j : ℕ) (e a : V2) → AllByRecursion P (corners_from b sides) → slice_get sides j ≡ Some a → slice_get (b ∷ sides) j ≡ Some e → P (record { before = e; after = a })
+corner_at : (P : CornerSides → Type 0) (b : PlaneVector) (sides : List PlaneVector) (j : ℕ) (e a : PlaneVector) → AllByRecursion P (corners_from b sides) → slice_get sides j ≡ Some a → slice_get (b ∷ sides) j ≡ Some e → P (record { before = e; after = a })
 corner_at P b [] j e a all h k = cc
 corner_at P b (s ∷ sides) zero e a all h k = subst (λ x. P (record { before = x; after = a })) (same_Some b e k) (subst (λ x. P (record { before = b; after = x })) (same_Some s a h) all.0)
 corner_at P b (s ∷ sides) (suc j) e a all h k = corner_at P s sides j e a all.1 h k
@@ -92,7 +77,7 @@ rays s surface c h =
     let st = in_polygon s.polygons c h in
     let b = value_of (at_side s.polygons (side_before s.polygons c)) (has_before s.polygons c h) in
     let a = value_of (at_side s.polygons c) h in
-    let polygon = all_at (λ polygon. IsPolygon s.d (side_vectors polygon)) s.polygons c.polygon st.polygon surface.each st.is in
+    let polygon = All-slice_get (λ polygon. IsPolygon s.d (side_vectors polygon)) s.polygons c.polygon st.polygon surface.each st.is in
     record {
       before = b.value;
       after = a.value;
@@ -114,7 +99,7 @@ abbrev pub is_ray_raised : GluedPolygons → Corner → Bool
 is_ray_raised s c = raised_or s.d (at_side s.polygons c)
 
 -- the test of the vector that is read there
-pub ray_read : (s : GluedPolygons) (c : Corner) (v : V2) → HasSide s.polygons c → IfSome (at_side s.polygons c) (λ side. v ≡ side.vector) → is_raised s.d v ≡ is_ray_raised s c
+pub ray_read : (s : GluedPolygons) (c : Corner) (v : PlaneVector) → HasSide s.polygons c → IfSome (at_side s.polygons c) (λ side. v ≡ side.vector) → is_raised s.d v ≡ is_ray_raised s c
 ray_read s c v h e =
     let a = value_of (at_side s.polygons c) h in
     let same : v ≡ a.value.vector = subst (λ o. IfSome o (λ side. v ≡ side.vector)) a.is e in
@@ -131,7 +116,7 @@ module _ (s : GluedPolygons) (surface : IsSurface s) (c : Corner) (h : HasSide s
   pub ray-next : (r : HasRays s c) → is_ray_raised s (next s.polygons c) ≡ not (is_raised s.d r.before.vector)
   ray-next r =
       ap (raised_or s.d) (next_ray r)
-      ∙ raised-neg surface.radicand r.before.vector (λ z. axis.before-ne-zero (field_order surface.radicand) (vector_of r.before.vector) (vector_of r.after.vector) r.convex z.0 z.1)
+      ∙ raised-neg surface.radicand r.before.vector (λ z. axis.before-ne-zero (field_order surface.radicand) r.before.vector r.after.vector r.convex z.0 z.1)
 
   -- the corner holds (1,0) where its first ray isn't raised and the next one is
   pub held-rays : (r : HasRays s c) → not (is_ray_raised s c) && is_ray_raised s (next s.polygons c) ≡ is_held s.d r.before.vector r.after.vector

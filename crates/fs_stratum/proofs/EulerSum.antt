@@ -7,7 +7,7 @@ use Rattle.fs_gluing.specs.Surface.{GluedPolygons, IsSurface}
 use Rattle.fs_gluing.specs.Vertices.{HoldsEast, IsCount}
 use Rattle.fs_stratum.specs.declared.cones.Cone.{Cone}
 use Rattle.fs_stratum.specs.VertexList.{HasGenus}
-use Rattle.fs_stratum.proofs.Tallies.{tally}
+use Rattle.fs_lists.proofs.Counts.{tally}
 use Rattle.fs_stratum.proofs.AllSides.{length-all_sides}
 use Rattle.fs_stratum.proofs.HeldCorners.{low_at}
 use Rattle.fs_stratum.proofs.RaisedSides.{low-half, held-half}

@@ -2,8 +2,8 @@
 use Rattle.std.proofs.Common.{◌⊎◌, inl, inr, ℕ, ◌≤◌, List, [], ◌∷◌, sum_by, sym, refl, subst}
 use Rattle.std.proofs.lemmas.List.Sums.{sum_by-cons}
 use Rattle.std.specs.List.{AllByRecursion}
-use Rattle.fs_cycles.specs.Cycles.{IsIn}
-use Rattle.fs_cycles.proofs.Lists.{in_of_contains, in_map}
+use Rattle.fs_lists.specs.Members.{IsIn}
+use Rattle.fs_lists.proofs.Members.{in_of_contains, in_map, All-member}
 use Rattle.fs_plane.specs.declared.corners.Corner.{Corner}
 use Rattle.fs_gluing.specs.Polygons.{all_sides}
 use Rattle.fs_gluing.specs.Surface.{GluedPolygons, IsSurface}
@@ -14,7 +14,7 @@ use Rattle.fs_stratum.proofs.AllSides.{all_sides_in}
 use Rattle.fs_stratum.proofs.VertexOrbits.{one_vertex_trans, one_vertex_comm}
 use Rattle.fs_stratum.proofs.CornerCounts.{count_same, count_none, count_join}
 use Rattle.fs_stratum.proofs.ConeNumberPositive.{cone_number_positive}
-use Rattle.fs_stratum.proofs.Parity.{firsts, ascending_tail, ascending_less, cone_at, has_even_sum}
+use Rattle.fs_stratum.proofs.Parity.{firsts, ascending_tail, ascending_less, has_even_sum}
 use Rattle.fs_stratum.proofs.EulerSum.{has_genus}
 
 module _ (s : GluedPolygons) (surface : IsSurface s) where
@@ -33,7 +33,7 @@ module _ (s : GluedPolygons) (surface : IsSurface s) where
   not_of_later : (x : Cone) (cones : List Cone) → AllByRecursion (IsVertex s) (x ∷ cones) → AreAscending (firsts (x ∷ cones)) → (e : Corner) → AreOneVertex s.polygons x.first e → IsOfThese cones e → ⊥
   not_of_later x cones all a e o h =
       let there = all.0.there in
-      (cone_at s surface cones h.0 all.1 h.1).least x.first
+      (All-member (IsVertex s) cones h.0 all.1 h.1).least x.first
       (one_vertex_trans s.polygons h.0.first e x.first h.2 (one_vertex_comm s.polygons surface.glued x.first e there o))
       (ascending_less x cones a h.0.first (in_map (λ (cone : Cone). cone.first) h.0 cones h.1))
 

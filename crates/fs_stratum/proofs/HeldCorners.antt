@@ -6,38 +6,38 @@ use Rattle.std.specs.Option.{option_and_then}
 use Rattle.std.specs.List.{slice_get, range_with_len, AllByRecursion}
 use Rattle.fs_quadratic.specs.Radicand.{IsRadicand}
 use Rattle.fs_plane.specs.declared.corners.Corner.{Corner}
-use Rattle.fs_plane.specs.declared.vector.V2.{V2}
-use Rattle.fs_plane.specs.Vector.{is_raised}
+use Rattle.fs_plane.specs.Vector.{is_raised, PlaneVector}
 use Rattle.fs_gluing.specs.declared.surfaces.Side.{Side}
 use Rattle.fs_gluing.specs.Convex.{corners_of, corners_from, last_side, IsStrictlyConvex, is_rise}
 use Rattle.fs_gluing.specs.Polygons.{at_side, sides_from, all_sides}
 use Rattle.fs_gluing.specs.Surface.{GluedPolygons, IsSurface, IsPolygon, side_vectors}
 use Rattle.fs_gluing.specs.NextCorner.{side_before, length_or_0}
-use Rattle.fs_gluing.proofs.Base.TestsInOrder.{All-weaker}
-use Rattle.fs_stratum.proofs.Tallies.{tally, one_if, tally-append, tally-agree}
-use Rattle.fs_stratum.proofs.AllSides.{corner, row, some_of_inside}
+use Rattle.fs_lists.proofs.All.{All-weaker}
+use Rattle.fs_lists.proofs.Counts.{tally, one_if, tally-append, tally-agree, tally-map}
+use Rattle.fs_stratum.proofs.AllSides.{corner, row}
+use Rattle.fs_lists.proofs.Items.{some_of_inside, value_of}
 use Rattle.fs_stratum.proofs.SectorOfEast.{IsConvexOrStraight, is_held, is_east, counted}
-use Rattle.fs_stratum.proofs.CornerRays.{before, before_zero, before_suc, last_is, value_of}
+use Rattle.fs_stratum.proofs.CornerRays.{before, before_zero, before_suc, last_is}
 
 -- ---- along the boundary of a polygon, by its vectors
 
 -- the side isn't raised
-abbrev pub is_low : ℕ → V2 → Bool
+abbrev pub is_low : ℕ → PlaneVector → Bool
 is_low d v = not (is_raised d v)
 
 -- how many of the corners at which these sides begin hold (1,0); b is the side before them
-abbrev held_from : ℕ → V2 → List V2 → ℕ
+abbrev held_from : ℕ → PlaneVector → List PlaneVector → ℕ
 held_from d b [] = 0
 held_from d b (s ∷ sides) = one_if (is_held d b s) + held_from d s sides
 
-rises-next : (d : ℕ) (b s : V2) (sides : List V2) → count_by (is_rise d) (corners_from b (s ∷ sides)) ≡ one_if (is_rise d (record { before = b; after = s })) + count_by (is_rise d) (corners_from s sides)
+rises-next : (d : ℕ) (b s : PlaneVector) (sides : List PlaneVector) → count_by (is_rise d) (corners_from b (s ∷ sides)) ≡ one_if (is_rise d (record { before = b; after = s })) + count_by (is_rise d) (corners_from s sides)
 rises-next d b s sides = sum_by-cons (λ corner_sides. cond (is_rise d corner_sides) 1 0) (record { before = b; after = s }) (corners_from s sides)
 
 sum_more : (h r e l a hs rs rss n el ll ts : ℕ) → h + r + e ≡ l + a → rss ≡ r + rs → hs + rs + a + ll ≡ n + ts + el → h + hs + rss + e + ll ≡ l + (n + ts) + el
 sum_more h r e l a hs rs rss n el ll ts p q s = omega arith
 
 -- along sides with strictly convex or straight corners: held corners and rises by the sides that aren't raised
-held-path : {d : ℕ} → IsRadicand d → (b : V2) (sides : List V2) → AllByRecursion (IsConvexOrStraight d) (corners_from b sides)
+held-path : {d : ℕ} → IsRadicand d → (b : PlaneVector) (sides : List PlaneVector) → AllByRecursion (IsConvexOrStraight d) (corners_from b sides)
     → held_from d b sides + count_by (is_rise d) (corners_from b sides) + one_if (is_east d b) + one_if (is_low d (last_side (b ∷ sides)))
     ≡ one_if (is_low d b) + tally (is_low d) sides + one_if (is_east d (last_side (b ∷ sides)))
 held-path {d} radicand b [] all = sum_none (one_if (is_east d b)) (one_if (is_low d b))
@@ -47,11 +47,11 @@ held-path {d} radicand b [] all = sum_none (one_if (is_east d b)) (one_if (is_lo
 held-path {d} radicand b (s ∷ sides) all =
     sum_more _ _ _ _ _ _ _ _ _ _ _ _ (counted radicand b s all.0) (rises-next d b s sides) (held-path radicand s sides all.1)
 
-held-round : {d : ℕ} → IsRadicand d → (sides : List V2) → IsPolygon d sides → held_from d (last_side sides) sides + 1 ≡ tally (is_low d) sides
+held-round : {d : ℕ} → IsRadicand d → (sides : List PlaneVector) → IsPolygon d sides → held_from d (last_side sides) sides + 1 ≡ tally (is_low d) sides
 held-round radicand [] p = let l = p.three in absurd (omega arith)
 held-round {d} radicand (s ∷ sides) p =
     sum_round (held_from d (last_side (s ∷ sides)) (s ∷ sides)) _ (one_if (is_east d (last_side (s ∷ sides)))) (one_if (is_low d (last_side (s ∷ sides)))) (tally (is_low d) (s ∷ sides))
-    (held-path radicand (last_side (s ∷ sides)) (s ∷ sides) (All-weaker (IsStrictlyConvex d) (IsConvexOrStraight d) (λ corner_sides left. inl left) (corners_of (s ∷ sides)) p.convex)) p.turning_number
+    (held-path radicand (last_side (s ∷ sides)) (s ∷ sides) (All-weaker (corners_of (s ∷ sides)) (λ corner_sides convex. inl convex) p.convex)) p.turning_number
   where
     sum_round : (h r e l t : ℕ) → h + r + e + l ≡ l + t + e → r ≡ 1 → h + 1 ≡ t
     sum_round h r e l t p q = omega arith
@@ -117,10 +117,6 @@ held_at d polygons c = held_or d (at_side polygons (side_before polygons c)) (at
 -- the side isn't raised
 abbrev pub low_at : ℕ → List (List Side) → Corner → Bool
 low_at d polygons c = low_or d (at_side polygons c)
-
-tally-map : {X Y : Type 0} (q : Y → Bool) (f : X → Y) (xs : List X) → tally q (map f xs) ≡ tally (λ x. q (f x)) xs
-tally-map q f [] = refl
-tally-map q f (x ∷ xs) = ap (λ n. one_if (q (f x)) + n) (tally-map q f xs)
 
 held_at-in : (d : ℕ) (polygons : List (List Side)) (i j : ℕ) (polygon : List Side) → slice_get polygons i ≡ Some polygon → held_at d polygons (corner i j) ≡ held_in d polygon j
 held_at-in d polygons i j polygon is =

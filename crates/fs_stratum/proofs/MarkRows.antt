@@ -7,10 +7,10 @@ use Rattle.std.specs.Option.{IsSome, IfSome, option_and_then, option_map}
 use Rattle.std.specs.List.{slice_get}
 use Rattle.fs_plane.specs.declared.corners.Corner.{Corner}
 use Rattle.fs_gluing.specs.Polygons.{at_side, HasSide}
-use Rattle.fs_gluing.proofs.Surface.NextCorner.{in_polygon}
+use Rattle.fs_gluing.proofs.SurfaceCalls.NextCorner.{in_polygon}
 use Rattle.fs_stratum.specs.CornerMarks.{is_marked, AreUnmarked, MarksCorner}
-use Rattle.fs_stratum.proofs.AllSides.{corner_eq, some_of_inside}
-use Rattle.fs_stratum.proofs.CornerRays.{value_of}
+use Rattle.fs_stratum.proofs.AllSides.{corner_eq}
+use Rattle.fs_lists.proofs.Items.{some_of_inside, value_of, slice_get-set_same, slice_get-set_other, some_of_set}
 
 -- a row of marks for each polygon, none of which is set
 abbrev pub unmarked_rows : {X : Type 0} → List (List X) → List (List Bool)
@@ -44,31 +44,6 @@ rows_unmarked polygons = record {
 
 -- ---- one more mark
 
-slice_get-set_same : {X : Type 0} (xs : List X) (i : ℕ) (v : X) → i < length xs → slice_get (set xs i v) i ≡ Some v
-slice_get-set_same [] i v l = absurd (omega arith)
-slice_get-set_same (x ∷ xs) zero v l = refl
-slice_get-set_same (x ∷ xs) (suc i) v l = slice_get-set_same xs i v (omega arith)
-
-slice_get-set_other : {X : Type 0} (xs : List X) (i k : ℕ) (v : X) → ¬ (k ≡ i) → slice_get (set xs i v) k ≡ slice_get xs k
-slice_get-set_other [] i k v n = refl
-slice_get-set_other (x ∷ xs) zero zero v n = absurd (n refl)
-slice_get-set_other (x ∷ xs) zero (suc k) v n = refl
-slice_get-set_other (x ∷ xs) (suc i) zero v n = refl
-slice_get-set_other (x ∷ xs) (suc i) (suc k) v n = slice_get-set_other xs i k v (λ e. n (ap (λ m. suc m) e))
-
--- an index with an item is within the list
-pub within_by : {X : Type 0} (xs : List X) (k : ℕ) (x : X) → slice_get xs k ≡ Some x → k < length xs
-within_by [] k x e = cc
-within_by (y ∷ xs) zero x e = omega arith
-within_by (y ∷ xs) (suc k) x e = let l = within_by xs k x e in omega arith
-
-some_set : {X : Type 0} (xs : List X) (i k : ℕ) (v : X) → IsSome (slice_get xs k) → IsSome (slice_get (set xs i v) k)
-some_set [] i k v h = h
-some_set (x ∷ xs) zero zero v h = refl
-some_set (x ∷ xs) zero (suc k) v h = h
-some_set (x ∷ xs) (suc i) zero v h = refl
-some_set (x ∷ xs) (suc i) (suc k) v h = some_set xs i k v h
-
 module _ (marks : List (List Bool)) (c : Corner) (row : List Bool) (is : slice_get marks c.polygon ≡ Some row) (inside : c.side < length row) where
   -- the marks after the one at c is set
   abbrev new : List (List Bool)
@@ -76,7 +51,7 @@ module _ (marks : List (List Bool)) (c : Corner) (row : List Bool) (is : slice_g
 
   at_row : (e : Corner) → e.polygon ≡ c.polygon → at_side new e ≡ slice_get (set row c.side true) e.side
   at_row e same =
-      ap (option_and_then (λ r. slice_get r e.side)) (ap (slice_get new) same ∙ slice_get-set_same marks c.polygon (set row c.side true) (within_by marks c.polygon row is))
+      ap (option_and_then (λ r. slice_get r e.side)) (ap (slice_get new) same ∙ slice_get-set_same marks c.polygon (set row c.side true) (slice_get_within marks c.polygon row is))
 
   old_row : (e : Corner) → e.polygon ≡ c.polygon → at_side marks e ≡ slice_get row e.side
   old_row e same = ap (option_and_then (λ r. slice_get r e.side)) (ap (slice_get marks) same ∙ is)
@@ -88,7 +63,7 @@ module _ (marks : List (List Bool)) (c : Corner) (row : List Bool) (is : slice_g
   set_mark = record {
     covers = record {
       each = λ e h. elim (cases_eq e.polygon c.polygon) [
-        | inl same ↦ subst IsSome (sym (at_row e same)) (some_set row c.side e.side true (subst IsSome (old_row e same) h))
+        | inl same ↦ subst IsSome (sym (at_row e same)) (some_of_set row c.side e.side true (subst IsSome (old_row e same) h))
         | inr apart ↦ subst IsSome (sym (at_other e apart)) h
       ];
     };
@@ -104,7 +79,7 @@ module _ {W : Type 0} (items : W → List Bool) (rows : List W) (old : List (Lis
   row_at : slice_get old c.polygon ≡ Some (items row)
   row_at =
       let st = in_polygon old c has in
-      let l = within_by old c.polygon st.polygon st.is in
+      let l = slice_get_within old c.polygon st.polygon st.is in
       let long : length old ≡ length rows = ap length (sym view) ∙ length-map rows items in
       ap (λ m. slice_get m c.polygon) (sym view) ∙ slice_get-map items rows c.polygon
       ∙ ap (option_map items) (slice_get-get_or rows c.polygon row (omega arith) ∙ ap Some (sym read))

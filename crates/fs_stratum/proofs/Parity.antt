@@ -6,7 +6,7 @@ use Rattle.std.specs.List.{AllByRecursion, slice_get}
 use Rattle.std.specs.declared.cmp.Ordering.TheVariants.{Less}
 use Rattle.fs_cycles.specs.Cycles as cycles
 use Rattle.fs_cycles.specs.Blocks.{StepsBack}
-use Rattle.fs_cycles.proofs.Lists.{in_of_contains, in_map, in_map_cases}
+use Rattle.fs_lists.proofs.Members.{in_of_contains, in_map, in_map_cases, All-member}
 use Rattle.fs_cycles.proofs.Blocks.{even_with_blocks}
 use Rattle.fs_plane.specs.declared.corners.Corner.{Corner}
 use Rattle.fs_gluing.specs.declared.surfaces.Side.{Side}
@@ -15,14 +15,17 @@ use Rattle.fs_gluing.specs.Polygons.{at_side, HasSide, all_sides}
 use Rattle.fs_gluing.specs.Surface.{GluedPolygons, IsSurface, IsPolygon, side_vectors}
 use Rattle.fs_gluing.specs.NextCorner.{IsNextCorner, side_before, side_count}
 use Rattle.fs_gluing.specs.Vertices.{AreOneVertex}
-use Rattle.fs_gluing.proofs.Surface.NextCorner.{has_before, in_polygon, next_corner_one_to_one}
+use Rattle.fs_gluing.proofs.SurfaceCalls.NextCorner.{has_before, in_polygon, next_corner_one_to_one}
 use Rattle.fs_stratum.specs.declared.cones.Cone.{Cone}
 use Rattle.fs_stratum.specs.VertexList.{IsVertex, AreVertices, AreAscending}
-use Rattle.fs_stratum.proofs.Tallies.{tally}
-use Rattle.fs_stratum.proofs.MarkRows.{within_by}
-use Rattle.fs_stratum.proofs.AllSides.{corner, corner_eq, same_corner, in_all_sides, all_sides_in, all_sides_distinct, some_of_inside}
+use Rattle.fs_lists.proofs.Counts.{tally}
+use Rattle.std.proofs.lemmas.Option.{slice_get_within}
+use Rattle.fs_lists.specs.Members.{IsIn, AreApart}
+use Rattle.fs_stratum.proofs.AllSides.{corner, corner_eq, same_corner, in_all_sides, all_sides_in, all_sides_distinct}
+use Rattle.fs_lists.proofs.Items.{some_of_inside, value_of}
 use Rattle.fs_stratum.proofs.VertexOrbits.{next, partner_or, is_next_corner, leads_of, one_vertex_of, one_vertex_comm}
-use Rattle.fs_stratum.proofs.CornerRays.{before, before_suc, all_at, value_of}
+use Rattle.fs_stratum.proofs.CornerRays.{before, before_suc}
+use Rattle.fs_lists.proofs.All.{All-slice_get}
 use Rattle.fs_stratum.proofs.VerticesFound.{less_of, of_less, has_in_row}
 use Rattle.fs_stratum.proofs.HeldCorners.{low_at}
 use Rattle.fs_stratum.proofs.RaisedSides.{partner, pairs, low-half}
@@ -47,7 +50,7 @@ ascending_tail x [] a = tt
 ascending_tail x (y ∷ rest) a = a.1
 
 -- the head of an ascending list is less than all after it
-pub ascending_less : (x : Cone) (rest : List Cone) → AreAscending (firsts (x ∷ rest)) → (e : Corner) → cycles.IsIn e (firsts rest) → corner_cmp x.first e ≡ Less
+pub ascending_less : (x : Cone) (rest : List Cone) → AreAscending (firsts (x ∷ rest)) → (e : Corner) → IsIn e (firsts rest) → corner_cmp x.first e ≡ Less
 ascending_less x [] a e h = absurd h
 ascending_less x (y ∷ rest) a e h = elim h [
   | inl same ↦ subst (λ c. corner_cmp x.first c ≡ Less) (sym same) a.0
@@ -55,15 +58,10 @@ ascending_less x (y ∷ rest) a e h = elim h [
 ]
 
 module _ (s : GluedPolygons) (surface : IsSurface s) where
-  -- an item of the list is a vertex
-  pub cone_at : (cones : List Cone) (c : Cone) → AllByRecursion (IsVertex s) cones → cycles.IsIn c cones → IsVertex s c
-  cone_at [] c all i = absurd i
-  cone_at (x ∷ cones) c all i = elim i [ inl e ↦ subst (IsVertex s) (sym e) all.0 | inr j ↦ cone_at cones c all.1 j ]
+  cone_of : (cones : List Cone) → AllByRecursion (IsVertex s) cones → (e : Corner) → IsIn e (firsts cones) → (cone : Cone) × IsVertex s cone × (e ≡ cone.first)
+  cone_of cones all e i = let r = in_map_cases (λ (cone : Cone). cone.first) e cones i in (r.0, All-member (IsVertex s) cones r.0 all r.1, r.2)
 
-  cone_of : (cones : List Cone) → AllByRecursion (IsVertex s) cones → (e : Corner) → cycles.IsIn e (firsts cones) → (cone : Cone) × IsVertex s cone × (e ≡ cone.first)
-  cone_of cones all e i = let r = in_map_cases (λ (cone : Cone). cone.first) e cones i in (r.0, cone_at cones r.0 all r.1, r.2)
-
-  apart_firsts : (cones : List Cone) → AllByRecursion (IsVertex s) cones → AreAscending (firsts cones) → cycles.AreApart (cycles.LeadsTo (next s.polygons)) (firsts cones)
+  apart_firsts : (cones : List Cone) → AllByRecursion (IsVertex s) cones → AreAscending (firsts cones) → AreApart (cycles.LeadsTo (next s.polygons)) (firsts cones)
   apart_firsts [] all a = tt
   apart_firsts (x ∷ rest) all a = (
     (λ e i leads.
@@ -108,14 +106,14 @@ module _ (s : GluedPolygons) (surface : IsSurface s) where
   head_has : (i : ℕ) → i < length s.polygons → HasSide s.polygons (corner i 0)
   head_has i l =
       let r = value_of (slice_get s.polygons i) (some_of_inside s.polygons i l) in
-      let three = (all_at (λ polygon. IsPolygon s.d (side_vectors polygon)) s.polygons i r.value surface.each r.is).three in
+      let three = (All-slice_get (λ polygon. IsPolygon s.d (side_vectors polygon)) s.polygons i r.value surface.each r.is).three in
       let long = length-map r.value (λ (side : Side). side.vector) in
       has_in_row s i 0 (length r.value) l (subst (λ o. IfSome o (λ (polygon : List Side). length r.value ≡ length polygon)) (sym r.is) refl) (omega arith)
 
   -- the step to the side before goes round each polygon
   steps_back : StepsBack (side_before s.polygons) (all_sides s.polygons) (length s.polygons) (λ c. c.polygon) (λ c. c.side) (λ i. corner i 0)
   steps_back = record {
-    below = λ x i. let st = in_polygon s.polygons x (all_sides_in s.polygons x i) in within_by s.polygons x.polygon st.polygon st.is;
+    below = λ x i. let st = in_polygon s.polygons x (all_sides_in s.polygons x i) in slice_get_within s.polygons x.polygon st.polygon st.is;
     stays = λ x i. refl;
     steps = λ x i p e. ap (before (side_count s.polygons x.polygon)) e ∙ before_suc (side_count s.polygons x.polygon) p;
     arrives = λ x i e. corner_eq refl e;

@@ -4,12 +4,13 @@ use Rattle.std.specs.Option.{IsSome}
 use Rattle.fs_quadratic.proofs.Laws.{field_order}
 use Rattle.fs_cycles.specs.Cycles.{Pairs}
 use Rattle.fs_plane.specs.declared.corners.Corner.{Corner}
-use Rattle.fs_plane.specs.Vector.{vector_of, vector_neg}
+use Rattle.fs_plane.specs.Vector.{vector_neg}
 use Rattle.fs_gluing.specs.declared.surfaces.Side.{Side}
 use Rattle.fs_gluing.specs.Polygons.{at_side, HasSide, all_sides}
 use Rattle.fs_gluing.specs.Surface.{GluedPolygons, IsSurface, IsGlued}
 use Rattle.fs_gluing.specs.Vertices.{HoldsEast, IsCount}
-use Rattle.fs_stratum.proofs.Tallies.{tally, tally-half}
+use Rattle.fs_stratum.proofs.Tallies.{tally-half}
+use Rattle.fs_lists.proofs.Counts.{tally}
 use Rattle.fs_stratum.proofs.AllSides.{in_all_sides, all_sides_in, all_sides_distinct}
 use Rattle.fs_stratum.proofs.AxisSigns as axis
 use Rattle.fs_stratum.proofs.SectorOfEast.{raised-neg}
@@ -46,7 +47,7 @@ module _ (s : GluedPolygons) (surface : IsSurface s) where
     low-partner =
         let r = rays s surface c h in
         ap (low_or s.d) (at_partner r)
-        ∙ ap not (raised-neg surface.radicand r.after.vector (λ z. axis.after-ne-zero (field_order surface.radicand) (vector_of r.before.vector) (vector_of r.after.vector) r.convex z.0 z.1))
+        ∙ ap not (raised-neg surface.radicand r.after.vector (λ z. axis.after-ne-zero (field_order surface.radicand) r.before.vector r.after.vector r.convex z.0 z.1))
         ∙ sym (ap (λ o. not (low_or s.d o)) r.begins)
 
   -- partners are pairs

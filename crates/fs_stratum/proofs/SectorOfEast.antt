@@ -11,10 +11,9 @@ use Rattle.fs_quadratic.proofs.Excess.{sign-positive_mul}
 use Rattle.fs_quadratic.proofs.Laws.{field_order}
 use Rattle.fs_quadratic.proofs.SquareRoot.{radicand_no_square}
 use Rattle.fs_quadratic.proofs.Signs.{sign-positive, sign-negative, sign-zero, sign-neg, positive_of_sign, zero_of_sign, negative_of_sign}
-use Rattle.fs_plane.specs.declared.vector.V2.{V2}
-use Rattle.fs_plane.specs.Vector.{vector_of, vector_neg, cross, dot, norm, is_upper, upper_by_signs, is_raised, raised_by_signs}
+use Rattle.fs_plane.specs.Vector.{vector_neg, cross, dot, norm, is_upper, upper_by_signs, is_raised, raised_by_signs, PlaneVector}
 use Rattle.fs_gluing.specs.Convex.{CornerSides, IsStrictlyConvex, is_rise}
-use Rattle.fs_stratum.proofs.Tallies.{one_if}
+use Rattle.fs_lists.proofs.Counts.{one_if}
 use Rattle.fs_stratum.proofs.AxisSigns as axis
 
 -- ---- a strictly convex corner by the signs of y and of x, before and after
@@ -73,20 +72,20 @@ counted_straight Equal Less = refl
 -- ---- the same for vectors
 
 -- the vector is along (1,0)
-abbrev pub is_east : ℕ → V2 → Bool
+abbrev pub is_east : ℕ → PlaneVector → Bool
 is_east d v = east_by_signs (sign d v.y) (sign d v.x)
 
 -- neither the side before nor the side after is raised
-abbrev pub is_held : ℕ → V2 → V2 → Bool
+abbrev pub is_held : ℕ → PlaneVector → PlaneVector → Bool
 is_held d before after = not (is_raised d before) && not (is_raised d after)
 
 -- the corner is strictly convex or straight
 abbrev pub IsConvexOrStraight : ℕ → CornerSides → Type 0
-IsConvexOrStraight d corner_sides = IsStrictlyConvex d corner_sides ⊎ IsAlong (quadratic d) (IsPositive d) (vector_of corner_sides.before) (vector_of corner_sides.after)
+IsConvexOrStraight d corner_sides = IsStrictlyConvex d corner_sides ⊎ IsAlong (quadratic d) (IsPositive d) corner_sides.before corner_sides.after
 
 module _ {d : ℕ} (radicand : IsRadicand d) where
   -- a vector other than (0,0) is raised exactly where its opposite isn't
-  pub raised-neg : (v : V2) → ¬ ((v.y ≡ nil) × (v.x ≡ nil)) → is_raised d (vector_neg v) ≡ not (is_raised d v)
+  pub raised-neg : (v : PlaneVector) → ¬ ((v.y ≡ nil) × (v.x ≡ nil)) → is_raised d (vector_neg v) ≡ not (is_raised d v)
   raised-neg v n =
       (λ i. raised_by_signs (sign-neg d v.y i) (sign-neg d v.x i)) ∙ go (sign d v.y) (sign d v.x) (λ e f. n (zero_of_sign (radicand_no_square radicand) v.y e, zero_of_sign (radicand_no_square radicand) v.x f))
     where
@@ -97,14 +96,14 @@ module _ {d : ℕ} (radicand : IsRadicand d) where
       go Equal Equal h = absurd (h refl refl)
       go Equal Greater h = refl
 
-  module _ (before after : V2) (convex : IsPositive d (cross d before after)) where
+  module _ (before after : PlaneVector) (convex : IsPositive d (cross d before after)) where
     -- a strictly convex corner has such signs
     pub convex_signs : HasConvexSigns (sign d before.y) (sign d before.x) (sign d after.y) (sign d after.x)
     convex_signs =
         let n = radicand_no_square radicand in
         let L = field_order radicand in
-        let b = vector_of before in
-        let a = vector_of after in record {
+        let b = before in
+        let a = after in record {
           from_east = λ e f. sign-positive d after.y (axis.from_east L b a convex (zero_of_sign n before.y e) (positive_of_sign n before.x f));
           from_west = λ e f. sign-negative d after.y (axis.from_west L b a convex (zero_of_sign n before.y e) (negative_of_sign n before.x f));
           from_zero = λ e f. axis.before-ne-zero L b a convex (zero_of_sign n before.y e) (zero_of_sign n before.x f);
@@ -116,7 +115,7 @@ module _ {d : ℕ} (radicand : IsRadicand d) where
   -- ---- from side to side: held corners, rises, and the sides that aren't raised
 
   -- the count at a strictly convex or straight corner
-  pub counted : (before after : V2) → IsConvexOrStraight d (record { before = before; after = after })
+  pub counted : (before after : PlaneVector) → IsConvexOrStraight d (record { before = before; after = after })
       → one_if (is_held d before after) + one_if (is_rise d (record { before = before; after = after })) + one_if (is_east d before) ≡ one_if (not (is_raised d before)) + one_if (is_east d after)
   counted before after on =
       (λ i. one_if (is_held d before after) + one_if (upper_by_signs (sign-neg d before.y i) (sign-neg d before.x i) && is_upper d after) + one_if (is_east d before))
@@ -125,14 +124,14 @@ module _ {d : ℕ} (radicand : IsRadicand d) where
         | inr along ↦ straight along
       ]
     where
-      straight : IsAlong (quadratic d) (IsPositive d) (vector_of before) (vector_of after)
+      straight : IsAlong (quadratic d) (IsPositive d) before after
           → one_if (is_held d before after) + one_if (rise_by_signs (sign d before.y) (sign d before.x) (sign d after.y) (sign d after.x)) + one_if (is_east d before)
           ≡ one_if (not (is_raised d before)) + one_if (is_east d after)
       straight along =
           let n = radicand_no_square radicand in
           let L = field_order radicand in
-          let b = vector_of before in
-          let a = vector_of after in
+          let b = before in
+          let a = after in
           let up = axis.along_norm L b a along in
           let same_y = sym (sign-positive_mul n (norm d before) after.y up) ∙ (ap (sign d) (axis.along_y L b a along) ∙ sign-positive_mul n (dot d before after) before.y along.same_way) in
           let same_x = sym (sign-positive_mul n (norm d before) after.x up) ∙ (ap (sign d) (axis.along_x L b a along) ∙ sign-positive_mul n (dot d before after) before.x along.same_way) in
@@ -141,23 +140,23 @@ module _ {d : ℕ} (radicand : IsRadicand d) where
           ∙ (counted_straight (sign d before.y) (sign d before.x)
           ∙ (λ i. one_if (not (is_raised d before)) + one_if (east_by_signs (sym same_y i) (sym same_x i))))
 
-  module _ (before after : V2) (convex : IsPositive d (cross d before after)) where
+  module _ (before after : PlaneVector) (convex : IsPositive d (cross d before after)) where
     -- the sector of the corner holds (1,0)
     abbrev Holds : Type 0
-    Holds = InSector (quadratic d) (IsPositive d) (vector_of after) (vector_of (vector_neg before)) (unit_vector (quadratic d))
+    Holds = InSector (quadratic d) (IsPositive d) after (vector_neg before) (unit_vector (quadratic d))
 
     lowers : sign d before.y ≡ Less → sign d after.y ≡ Less → Holds
     lowers e f =
         let n = radicand_no_square radicand in
         let L = field_order radicand in
-        inside (axis.right_of_axis L (unit_vector (quadratic d)) refl L.one_positive (vector_of after) (negative_of_sign n after.y f))
-        (axis.left_of_axis L (unit_vector (quadratic d)) refl L.one_positive (vector_of (vector_neg before)) (negative_of_sign n before.y e))
+        inside (axis.right_of_axis L (unit_vector (quadratic d)) refl L.one_positive after (negative_of_sign n after.y f))
+        (axis.left_of_axis L (unit_vector (quadratic d)) refl L.one_positive (vector_neg before) (negative_of_sign n before.y e))
 
     starts : sign d after.y ≡ Equal → sign d after.x ≡ Greater → Holds
     starts e f =
         let n = radicand_no_square radicand in
         let L = field_order radicand in
-        at_start (axis.along_axis L (unit_vector (quadratic d)) refl L.one_positive (vector_of after) (zero_of_sign n after.y e) (positive_of_sign n after.x f))
+        at_start (axis.along_axis L (unit_vector (quadratic d)) refl L.one_positive after (zero_of_sign n after.y e) (positive_of_sign n after.x f))
 
     -- the corner holds (1,0) where neither is raised
     pub holds_from_test : is_held d before after ≡ true → Holds
@@ -183,11 +182,11 @@ module _ {d : ℕ} (radicand : IsRadicand d) where
     pub test_from_holds : Holds → is_held d before after ≡ true
     test_from_holds (at_start h) =
         let L = field_order radicand in
-        let v = sign-zero d after.y (axis.along_axis_flat L (unit_vector (quadratic d)) refl L.one_positive (vector_of after) h) in
-        let x = sign-positive d after.x (axis.along_axis_ahead L (unit_vector (quadratic d)) refl L.one_positive (vector_of after) h) in
+        let v = sign-zero d after.y (axis.along_axis_flat L (unit_vector (quadratic d)) refl L.one_positive after h) in
+        let x = sign-positive d after.x (axis.along_axis_ahead L (unit_vector (quadratic d)) refl L.one_positive after h) in
         test_by Less (sign d before.x) Equal Greater ((convex_signs before after convex).to_east v x) refl v x refl
     test_from_holds (inside p q) =
         let L = field_order radicand in
         test_by Less (sign d before.x) Less (sign d after.x)
-        (sign-negative d before.y (axis.left_of_axis_back L (unit_vector (quadratic d)) refl L.one_positive (vector_of (vector_neg before)) q)) refl
-        (sign-negative d after.y (axis.right_of_axis_back L (unit_vector (quadratic d)) refl L.one_positive (vector_of after) p)) refl refl
+        (sign-negative d before.y (axis.left_of_axis_back L (unit_vector (quadratic d)) refl L.one_positive (vector_neg before) q)) refl
+        (sign-negative d after.y (axis.right_of_axis_back L (unit_vector (quadratic d)) refl L.one_positive after p)) refl refl

@@ -3,15 +3,14 @@ use Rattle.std.proofs.Common.{◌≡◌, ◌⊎◌, inl, inr, ℕ, zero, suc, �
 use Rattle.std.proofs.lemmas.List.Elements.{Contains-append_left, Contains-push}
 use Rattle.std.specs.List.{AllByRecursion}
 use Rattle.std.specs.declared.cmp.Ordering.TheVariants.{Less}
-use Rattle.fs_quadratic.proofs.Firsts.{All-append}
-use Rattle.fs_cycles.specs.Cycles.{IsIn}
-use Rattle.fs_cycles.proofs.Lists.{in_append_cases}
+use Rattle.fs_lists.proofs.All.{All-append, All-weaker}
+use Rattle.fs_lists.specs.Members.{IsIn}
+use Rattle.fs_lists.proofs.Members.{in_append_cases}
 use Rattle.fs_plane.specs.declared.corners.Corner.{Corner}
 use Rattle.fs_gluing.specs.Gluing.{corner_cmp}
 use Rattle.fs_gluing.specs.Polygons.{HasSide, sides_from, all_sides}
 use Rattle.fs_gluing.specs.Surface.{GluedPolygons, IsSurface}
 use Rattle.fs_gluing.specs.Vertices.{AreOneVertex, HoldsEast, IsCount, IsConeNumber}
-use Rattle.fs_gluing.proofs.Base.TestsInOrder.{All-weaker}
 use Rattle.fs_stratum.specs.declared.cones.Cone.{Cone}
 use Rattle.fs_stratum.specs.VertexList.{IsVertex, AreVertices, AreAscending}
 use Rattle.fs_stratum.proofs.AllSides.{corner, row, row_in, sides_from_in, in_all_sides, all_sides_in}
@@ -92,8 +91,7 @@ module _ (s : GluedPolygons) (surface : IsSurface s) where
   before_seen c rest cones b seen = record {
     each = b.each;
     ascending = b.ascending;
-    earlier = All-weaker (λ (cone : Cone). (e : Corner) → IsIn e (c ∷ rest) → corner_cmp cone.first e ≡ Less) (λ (cone : Cone). (e : Corner) → IsIn e rest → corner_cmp cone.first e ≡ Less)
-        (λ cone f e i. f e (inr i)) cones b.earlier;
+    earlier = All-weaker cones (λ cone f e i. f e (inr i)) b.earlier;
     there = λ e i. b.there e (inr i);
     sorted = b.sorted.1;
     listed = λ e h. elim (b.listed e h) [
@@ -124,10 +122,9 @@ module _ (s : GluedPolygons) (surface : IsSurface s) where
           tt,
         );
         ascending = ascending_push cones cone b.ascending
-            (All-weaker (λ (x : Cone). (e : Corner) → IsIn e (c ∷ rest) → corner_cmp x.first e ≡ Less) (λ (x : Cone). corner_cmp x.first c ≡ Less) (λ x f. f c (inl refl)) cones b.earlier);
+            (All-weaker cones (λ x f. f c (inl refl)) b.earlier);
         earlier = All-append (λ (x : Cone). (e : Corner) → IsIn e rest → corner_cmp x.first e ≡ Less) cones (cone ∷ [])
-            (All-weaker (λ (x : Cone). (e : Corner) → IsIn e (c ∷ rest) → corner_cmp x.first e ≡ Less) (λ (x : Cone). (e : Corner) → IsIn e rest → corner_cmp x.first e ≡ Less)
-            (λ x f e i. f e (inr i)) cones b.earlier)
+            (All-weaker cones (λ x f e i. f e (inr i)) b.earlier)
             (b.sorted.0, tt);
         there = λ e i. b.there e (inr i);
         sorted = b.sorted.1;

@@ -2,8 +2,8 @@
 use Rattle.std.proofs.Common.{◌≡◌, ◌⊎◌, inl, inr, ℕ, suc, List, [], ◌∷◌, sym, ap, ◌∙◌, refl, subst, arith}
 use Rattle.std.proofs.lemmas.Bool.{cases_order}
 use Rattle.std.specs.declared.cmp.Ordering.TheVariants.{Less}
-use Rattle.fs_cycles.specs.Cycles.{IsIn}
-use Rattle.fs_cycles.proofs.Lists.{in_of_contains, in_map}
+use Rattle.fs_lists.specs.Members.{IsIn}
+use Rattle.fs_lists.proofs.Members.{in_of_contains, in_map, All-member}
 use Rattle.fs_plane.specs.declared.corners.Corner.{Corner}
 use Rattle.fs_gluing.specs.Gluing.{corner_cmp}
 use Rattle.fs_gluing.specs.Surface.{GluedPolygons, IsSurface}
@@ -13,7 +13,7 @@ use Rattle.fs_stratum.specs.VertexList.{IsVertex, AreVertices, AreAscending, IsG
 use Rattle.fs_stratum.proofs.AllSides.{corner_eq}
 use Rattle.fs_stratum.proofs.VertexOrbits.{one_vertex_comm}
 use Rattle.fs_stratum.proofs.VerticesFound.{less_of, of_less}
-use Rattle.fs_stratum.proofs.Parity.{less_trans, firsts, ascending_tail, ascending_less, cone_at}
+use Rattle.fs_stratum.proofs.Parity.{less_trans, firsts, ascending_tail, ascending_less}
 
 -- ---- the order of corners is total
 
@@ -99,10 +99,10 @@ module _ (s : GluedPolygons) (surface : IsSurface s) where
 
   listed_too : (xs ys : List Cone) → AreVertices s xs → AreVertices s ys → (c : Cone) → IsIn c xs → IsIn c ys
   listed_too xs ys a b c i =
-      let p = cone_at s surface xs c a.each i in
+      let p = All-member (IsVertex s) xs c a.each i in
       let found = b.all c.first p.there in
       let j = in_of_contains found.0 ys found.1 in
-      subst (λ (x : Cone). IsIn x ys) (vertex_unique found.0 c (cone_at s surface ys found.0 b.each j) p found.2) j
+      subst (λ (x : Cone). IsIn x ys) (vertex_unique found.0 c (All-member (IsVertex s) ys found.0 b.each j) p found.2) j
 
 pub vertex_list_unique : (s : GluedPolygons) → IsSurface s → (xs ys : List Cone) → AreVertices s xs → AreVertices s ys → xs ≡ ys
 vertex_list_unique s surface xs ys a b = ascending_unique xs ys a.ascending b.ascending (listed_too s surface xs ys a b) (listed_too s surface ys xs b a)

@@ -3,17 +3,17 @@ use Rattle.std.proofs.Common.{◌≡◌, ◌⊎◌, inl, inr, ℕ, zero, suc, �
 use Rattle.std.proofs.lemmas.Bool.{cases_Bool}
 use Rattle.std.specs.Bool.{IsTrue}
 use Rattle.std.specs.Option.{IfSome}
-use Rattle.fs_cycles.specs.Cycles.{IsIn}
+use Rattle.fs_gluing.specs.Limits.{most_sides}
+use Rattle.fs_lists.specs.Members.{IsIn}
 use Rattle.fs_plane.specs.declared.corners.Corner.{Corner}
 use Rattle.fs_gluing.specs.declared.surfaces.Side.{Side}
-use Rattle.fs_plane.specs.declared.vector.V2.{V2}
-use Rattle.fs_plane.specs.Vector.{is_raised}
+use Rattle.fs_plane.specs.Vector.{is_raised, PlaneVector}
 use Rattle.fs_gluing.specs.Polygons.{at_side, HasSide, all_sides}
 use Rattle.fs_gluing.specs.Surface.{GluedPolygons, IsSurface}
 use Rattle.fs_gluing.specs.NextCorner.{IsNextCorner}
 use Rattle.fs_gluing.specs.Vertices.{IsNthNextCorner, AreOneVertex, HoldsEast, IsCount, IsConeNumber}
 use Rattle.fs_stratum.specs.CornerMarks.{is_marked, Covers, MarksCorner, MarksVertex}
-use Rattle.fs_stratum.proofs.Tallies.{one_if, tally}
+use Rattle.fs_lists.proofs.Counts.{one_if, tally, tally-less}
 use Rattle.fs_stratum.proofs.AllSides.{same_corner, in_all_sides, all_sides_distinct, length-all_sides}
 use Rattle.fs_stratum.proofs.VertexOrbits.{next, next_is, has_next, has_one_vertex, one_vertex_self, one_vertex_next}
 use Rattle.fs_stratum.proofs.CornerRays.{is_ray_raised, ray_read, holds_from_rays, rays_from_holds}
@@ -28,28 +28,6 @@ module _ (c : Corner) (now more : List (List Bool)) (m : MarksCorner c now more)
   more_keeps : (e : Corner) → IsTrue (is_marked now e) → IsTrue (is_marked more e)
   more_keeps e h = elim (same_corner e c) [ inl same ↦ ap (is_marked more) same ∙ m.here | inr apart ↦ m.others e apart ∙ h ]
 
-tally-weaker : (p q : Corner → Bool) (xs : List Corner) → ((e : Corner) → q e ≡ true → p e ≡ true) → tally q xs ≤ tally p xs
-tally-weaker p q [] f = omega arith
-tally-weaker p q (x ∷ xs) f =
-    let rest = tally-weaker p q xs f in
-    let here : one_if (q x) ≤ one_if (p x) = elim (cases_Bool (q x)) [
-      | inl e ↦ let a = ap one_if e in let b = ap one_if (f x e) in omega arith
-      | inr e ↦ let a = ap one_if e in omega arith
-    ] in
-    omega arith
-
-tally-falls : (p q : Corner → Bool) (xs : List Corner) (c : Corner) → IsIn c xs → ((e : Corner) → q e ≡ true → p e ≡ true) → p c ≡ true → q c ≡ false → tally q xs < tally p xs
-tally-falls p q [] c i f a b = absurd i
-tally-falls p q (x ∷ xs) c (inl e) f a b =
-    let rest = tally-weaker p q xs f in
-    let yes : one_if (p x) ≡ 1 = ap (λ y. one_if (p y)) (sym e) ∙ ap one_if a in
-    let no : one_if (q x) ≡ 0 = ap (λ y. one_if (q y)) (sym e) ∙ ap one_if b in
-    omega arith
-tally-falls p q (x ∷ xs) c (inr i) f a b =
-    let rest = tally-falls p q xs c i f a b in
-    let here = tally-weaker p q (x ∷ []) f in
-    omega arith
-
 -- the corners without a mark
 abbrev pub unmarked : List (List Side) → List (List Bool) → ℕ
 unmarked polygons marks = tally (λ e. not (is_marked marks e)) (all_sides polygons)
@@ -61,7 +39,7 @@ not_false false e = refl
 -- with one more mark fewer corners are without one
 pub unmarked_falls : (polygons : List (List Side)) (c : Corner) (now more : List (List Bool)) → HasSide polygons c → is_marked now c ≡ false → MarksCorner c now more → unmarked polygons more < unmarked polygons now
 unmarked_falls polygons c now more h free m =
-    tally-falls (λ e. not (is_marked now e)) (λ e. not (is_marked more e)) (all_sides polygons) c (in_all_sides polygons c h)
+    tally-less (λ e. not (is_marked now e)) (λ e. not (is_marked more e)) (all_sides polygons) c (in_all_sides polygons c h)
     (λ e k. elim (cases_Bool (is_marked now e)) [
       | inl marked ↦ let kept = more_keeps c now more m e marked in let lost = not_false (is_marked more e) k in let both : true ≡ false = sym kept ∙ lost in cc
       | inr other ↦ ap not other
@@ -103,7 +81,7 @@ module _ (s : GluedPolygons) (first : Corner) (old : List (List Bool)) (fresh : 
     has_corner now c k r = has_one_vertex s.polygons surface.glued first c has r.here
 
     -- the count is at most 1,024
-    pub count_few : (now : List (List Bool)) (c : Corner) (k : ℕ) → MarksVertexUpTo s first old now c k → k ≤ 1024
+    pub count_few : (now : List (List Bool)) (c : Corner) (k : ℕ) → MarksVertexUpTo s first old now c k → k ≤ most_sides
     count_few now c k r =
         let l = count_at_most _ (all_sides s.polygons) k r.count in
         let e = length-all_sides s.polygons in
@@ -181,28 +159,28 @@ second_true true b h e = cc
 second_true false b h e = not_both h e
 
 module _ (s : GluedPolygons) (surface : IsSurface s) (c e : Corner) (has : HasSide s.polygons c) (there : HasSide s.polygons e) (t : IsNextCorner s.polygons c e) (d : ℕ) (field : d ≡ s.d) where
-  read : (x : Corner) (v : V2) (a : Bool) → HasSide s.polygons x → IfSome (at_side s.polygons x) (λ side. v ≡ side.vector) → a ≡ is_raised d v → a ≡ is_ray_raised s x
+  read : (x : Corner) (v : PlaneVector) (a : Bool) → HasSide s.polygons x → IfSome (at_side s.polygons x) (λ side. v ≡ side.vector) → a ≡ is_raised d v → a ≡ is_ray_raised s x
   read x v a h side is = is ∙ ap (λ n. is_raised n v) field ∙ ray_read s x v h side
 
-  next_read : (w : V2) (b : Bool) → IfSome (at_side s.polygons e) (λ side. w ≡ side.vector) → b ≡ is_raised d w → b ≡ is_ray_raised s (next s.polygons c)
+  next_read : (w : PlaneVector) (b : Bool) → IfSome (at_side s.polygons e) (λ side. w ≡ side.vector) → b ≡ is_raised d w → b ≡ is_ray_raised s (next s.polygons c)
   next_read w b side is = read e w b there side is ∙ ap (is_ray_raised s) (next_is s.polygons c e t)
 
   -- the side at c isn't raised and the one at the next corner is: c holds (1,0)
-  pub held_read : (v w : V2) (a b : Bool) → IfSome (at_side s.polygons c) (λ side. v ≡ side.vector) → a ≡ is_raised d v → a ≡ false
+  pub held_read : (v w : PlaneVector) (a b : Bool) → IfSome (at_side s.polygons c) (λ side. v ≡ side.vector) → a ≡ is_raised d v → a ≡ false
       → IfSome (at_side s.polygons e) (λ side. w ≡ side.vector) → b ≡ is_raised d w → b ≡ true → HoldsEast s c
   held_read v w a b side_c is_a low side_e is_b high =
       holds_from_rays s surface c has
       ((λ i. not (sym (read c v a has side_c is_a) i) && sym (next_read w b side_e is_b) i) ∙ (λ i. not (low i) && high i))
 
   -- the side at c is raised: c doesn't hold (1,0)
-  pub raised_read : (v : V2) (a : Bool) → IfSome (at_side s.polygons c) (λ side. v ≡ side.vector) → a ≡ is_raised d v → a ≡ true → ¬ HoldsEast s c
+  pub raised_read : (v : PlaneVector) (a : Bool) → IfSome (at_side s.polygons c) (λ side. v ≡ side.vector) → a ≡ is_raised d v → a ≡ true → ¬ HoldsEast s c
   raised_read v a side is high held =
       let both = rays_from_holds s surface c has held in
       let up : is_ray_raised s c ≡ true = sym (read c v a has side is) ∙ high in
       first_false (is_ray_raised s c) (is_ray_raised s (next s.polygons c)) both up
 
   -- the side at the next corner isn't raised: c doesn't hold (1,0)
-  pub lowered_read : (w : V2) (b : Bool) → IfSome (at_side s.polygons e) (λ side. w ≡ side.vector) → b ≡ is_raised d w → b ≡ false → ¬ HoldsEast s c
+  pub lowered_read : (w : PlaneVector) (b : Bool) → IfSome (at_side s.polygons e) (λ side. w ≡ side.vector) → b ≡ is_raised d w → b ≡ false → ¬ HoldsEast s c
   lowered_read w b side is low held =
       let both = rays_from_holds s surface c has held in
       let down : is_ray_raised s (next s.polygons c) ≡ false = sym (next_read w b side is) ∙ low in

@@ -8,7 +8,7 @@ use Rattle.fs_gluing.specs.declared.surfaces.Side.{Side}
 use Rattle.fs_gluing.specs.Polygons.{at_side, HasSide, all_sides}
 use Rattle.fs_gluing.specs.NextCorner.{IsNextCorner, side_before}
 use Rattle.fs_gluing.specs.Vertices.{IsNthNextCorner, AreOneVertex}
-use Rattle.fs_gluing.proofs.Surface.NextCorner.{IsGluing, has_before, has_next_corner, next_corner_one_to_one}
+use Rattle.fs_gluing.proofs.SurfaceCalls.NextCorner.{IsGluing, has_before, has_next_corner, next_corner_one_to_one}
 use Rattle.fs_stratum.proofs.AllSides.{same_corner, in_all_sides, all_sides_in}
 
 -- the partner of a side, or c where there is none

@@ -9,23 +9,22 @@ use Rattle.std.specs.Option.{IsSome, IfSome, option_and_then}
 use Rattle.std.specs.List.{AllByRecursion, Contains, slice_get}
 use Rattle.std.specs.declared.cmp.Ordering.{Ordering}
 use Rattle.std.specs.declared.cmp.Ordering.TheVariants.{Less, Equal, Greater}
-use Rattle.fs_quadratic.proofs.Firsts.{All-append}
-use Rattle.fs_gluing.proofs.Base.TestsInOrder.{All-weaker}
+use Rattle.fs_lists.proofs.All.{All-append, All-weaker}
 use Rattle.fs_plane.specs.declared.corners.Corner.{Corner}
 use Rattle.fs_gluing.specs.declared.surfaces.Side.{Side}
 use Rattle.fs_gluing.specs.Gluing.{corner_cmp}
 use Rattle.fs_gluing.specs.Polygons.{HasSide}
 use Rattle.fs_gluing.specs.Surface.{GluedPolygons, IsSurface}
 use Rattle.fs_gluing.specs.Vertices.{AreOneVertex, IsConeNumber}
-use Rattle.fs_gluing.proofs.Surface.NextCorner.{in_polygon}
+use Rattle.fs_gluing.proofs.SurfaceCalls.NextCorner.{in_polygon}
 use Rattle.fs_stratum.specs.declared.cones.Cone.{Cone}
 use Rattle.fs_stratum.specs.VertexList.{IsVertex, AreAscending, AreVertices}
 use Rattle.fs_stratum.specs.CornerMarks.{is_marked, AreUnmarked, MarksVertex}
 use Rattle.fs_stratum.specs.VerticesFound.{AreFoundBefore}
-use Rattle.fs_stratum.proofs.MarkRows.{within_by}
-use Rattle.fs_stratum.proofs.AllSides.{corner, corner_eq, some_of_inside}
+use Rattle.std.proofs.lemmas.Option.{slice_get_within}
+use Rattle.fs_stratum.proofs.AllSides.{corner, corner_eq}
+use Rattle.fs_lists.proofs.Items.{some_of_inside, value_of}
 use Rattle.fs_stratum.proofs.VertexOrbits.{has_one_vertex, one_vertex_self, one_vertex_trans, one_vertex_comm}
-use Rattle.fs_stratum.proofs.CornerRays.{value_of}
 use Rattle.fs_stratum.proofs.VertexMarks.{not_both}
 
 -- ---- the order of corners
@@ -118,7 +117,7 @@ module _ (s : GluedPolygons) where
     covers = f.covers;
     each = f.each;
     ascending = f.ascending;
-    earlier = All-weaker (λ c. corner_cmp c.first (corner i j) ≡ Less) (λ c. corner_cmp c.first (corner i (j + 1)) ≡ Less) (λ c. to_next c.first i j) cones f.earlier;
+    earlier = All-weaker cones (λ c. to_next c.first i j) f.earlier;
     marked = f.marked;
     passed = λ e has h. elim (next_cases e i j h) [ inl l ↦ f.passed e has l | inr same ↦ ap (is_marked marks) (sym same) ∙ seen ];
   }
@@ -130,7 +129,7 @@ module _ (s : GluedPolygons) where
     covers = f.covers;
     each = f.each;
     ascending = f.ascending;
-    earlier = All-weaker (λ c. corner_cmp c.first (corner i n) ≡ Less) (λ c. corner_cmp c.first (corner (i + 1) 0) ≡ Less) (λ c. to_row c.first i n) cones f.earlier;
+    earlier = All-weaker cones (λ c. to_row c.first i n) f.earlier;
     marked = f.marked;
     passed = λ e has h. f.passed e has (less_of e (corner i n) (elim (of_less e (corner (i + 1) 0) h) [
       | inl l ↦ elim (cases_eq e.polygon i) [
@@ -183,7 +182,7 @@ module _ (s : GluedPolygons) where
           );
           ascending = ascending_push cones cone f.ascending f.earlier;
           earlier = All-append (λ x. corner_cmp x.first (corner i (j + 1)) ≡ Less) cones (cone ∷ [])
-              (All-weaker (λ x. corner_cmp x.first (corner i j) ≡ Less) (λ x. corner_cmp x.first (corner i (j + 1)) ≡ Less) (λ x. to_next x.first i j) cones f.earlier) (here_next i j, tt);
+              (All-weaker cones (λ x. to_next x.first i j) f.earlier) (here_next i j, tt);
           marked = λ e. (
             (λ h. elim ((m.marked e).0 h) [
               | inl old ↦ let found = (f.marked e).0 old in (found.0, Contains-append_left cones (cone ∷ []) found.0 found.1, found.2)
@@ -206,7 +205,7 @@ module _ (s : GluedPolygons) where
     all_marked : (e : Corner) → HasSide s.polygons e → IsTrue (is_marked marks e)
     all_marked e has =
         let st = in_polygon s.polygons e has in
-        let l = within_by s.polygons e.polygon st.polygon st.is in
+        let l = slice_get_within s.polygons e.polygon st.polygon st.is in
         f.passed e has (less_of e (corner n 0) (inl (omega arith)))
 
     -- after the last polygon all vertices are found

@@ -52,10 +52,7 @@ fn add_cones(
     ensures { OnOk result (AreFoundBefore surface.now (record { polygon = i + 1; side = 0 }) marks.new cones.new) }
 {
     for j in 0..surface.sides(i) {
-        let first = Corner {
-            polygon: i,
-            side: j,
-        };
+        let first = Corner::new(i, j);
         if !marks.has(first) {
             let k = mark_vertex(surface, first, marks);
             cones.push(Cone { first, k })?;

@@ -6,15 +6,14 @@ use Rattle.std.specs.Ordering.{int_eq}
 use Rattle.std.proofs.lemmas.Bool.Decides.{Decides-int_eq, Decides-eqb, Decides-and, Decides-like, Decides-not}
 use Rattle.fs_quadratic.specs.Ring.{Quadratic, neg}
 use Rattle.fs_plane.specs.declared.corners.Corner.{Corner}
-use Rattle.fs_plane.specs.declared.vector.V2.{V2}
-use Rattle.fs_plane.specs.Vector.{vector_neg}
+use Rattle.fs_plane.specs.Vector.{vector_neg, PlaneVector}
 
 -- the test of two numbers: both parts are equal
 abbrev pub same_number : Quadratic → Quadratic → Bool
 same_number a b = int_eq a.p b.p && int_eq a.q b.q
 
 -- the test of two vectors: both coordinates are equal
-abbrev pub same_vector : V2 → V2 → Bool
+abbrev pub same_vector : PlaneVector → PlaneVector → Bool
 same_vector a b = same_number a.x b.x && same_number a.y b.y
 
 Decides-same_number : (a b : Quadratic) → Decides (same_number a b) (a ≡ b)
@@ -23,10 +22,10 @@ Decides-same_number a b = Decides-like _
     (λ e. (ap (λ (x : Quadratic). x.p) e, ap (λ (x : Quadratic). x.q) e))
     (Decides-and _ _ (Decides-int_eq a.p b.p) (Decides-int_eq a.q b.q))
 
-pub Decides-same_vector : (a b : V2) → Decides (same_vector a b) (a ≡ b)
+pub Decides-same_vector : (a b : PlaneVector) → Decides (same_vector a b) (a ≡ b)
 Decides-same_vector a b = Decides-like _
     (λ e. ap (λ x. record { x = x; y = a.y }) e.0 ∙ ap (λ y. record { x = b.x; y = y }) e.1)
-    (λ e. (ap (λ (v : V2). v.x) e, ap (λ (v : V2). v.y) e))
+    (λ e. (ap (λ (v : PlaneVector). v.x) e, ap (λ (v : PlaneVector). v.y) e))
     (Decides-and _ _ (Decides-same_number a.x b.x) (Decides-same_number a.y b.y))
 
 true_from_not_false : (b : Bool) → not b ≡ false → b ≡ true
@@ -34,18 +33,18 @@ true_from_not_false true e = refl
 true_from_not_false false e = cc
 
 -- `!=` is true of different vectors, and false of equal ones
-pub differ_from_ne : (a b : V2) (r : Bool) → r ≡ not (same_vector a b) → r ≡ true → a ≢ b
+pub differ_from_ne : (a b : PlaneVector) (r : Bool) → r ≡ not (same_vector a b) → r ≡ true → a ≢ b
 differ_from_ne a b r is e = (Decides-not _ (Decides-same_vector a b)).0 (sym is ∙ e)
 
 -- where `!=` is false, the vectors are equal
-pub same_from_ne : (a b : V2) (r : Bool) → r ≡ not (same_vector a b) → r ≡ false → a ≡ b
+pub same_from_ne : (a b : PlaneVector) (r : Bool) → r ≡ not (same_vector a b) → r ≡ false → a ≡ b
 same_from_ne a b r is e = (Decides-same_vector a b).0 (true_from_not_false _ (sym is ∙ e))
 
 neg-neg : (a : Quadratic) → neg (neg a) ≡ a
 neg-neg a = ap (λ z. record { p = z; q = neg_ℤ (neg_ℤ a.q) }) (neg_ℤ-neg_ℤ a.p) ∙ ap (λ z. record { p = a.p; q = z }) (neg_ℤ-neg_ℤ a.q)
 
 -- the opposite of the opposite is the vector
-pub vector_neg-vector_neg : (a : V2) → vector_neg (vector_neg a) ≡ a
+pub vector_neg-vector_neg : (a : PlaneVector) → vector_neg (vector_neg a) ≡ a
 vector_neg-vector_neg a = ap (λ x. record { x = x; y = neg (neg a.y) }) (neg-neg a.x) ∙ ap (λ y. record { x = a.x; y = y }) (neg-neg a.y)
 
 -- the value of `==` for corners

@@ -3,8 +3,9 @@ use Rattle.std.proofs.Common.{◌≡◌, List, [], ◌∷◌, Result, Ok, Err, �
 use Rattle.std.proofs.lemmas.List.{append-nil}
 use Rattle.std.specs.List.{AllByRecursion}
 use Rattle.std.specs.Result.{IsErrAnd}
-use Rattle.fs_quadratic.specs.First.{IsFirstWithout}
-use Rattle.fs_quadratic.proofs.Firsts.{All-append, first_of_front, first_of_back, first_of_map}
+use Rattle.fs_lists.specs.First.{IsFirstWithout}
+use Rattle.fs_lists.proofs.All.{All-append, All-weaker}
+use Rattle.fs_lists.proofs.First.{first_of_prefix, first_of_suffix, first_of_map}
 use Rattle.fs_gluing.specs.declared.faults.BuildStop.{BuildStop}
 use Rattle.fs_gluing.specs.TestsInOrder.{PassesBefore, IsFirstStop}
 
@@ -32,7 +33,7 @@ all_from_passes_before P tests b = subst (AllByRecursion P) (sym (b.whole ∙ ap
 pub first_stop_of_rest : {X : Type 0} (P : X → Type 0) (tests rest : List X) (stop : X → BuildStop) (e : BuildStop) → PassesBefore P tests rest → IsFirstStop P rest stop e → IsFirstStop P tests stop e
 first_stop_of_rest P tests rest stop e b a = record {
   test = a.test;
-  first = subst (λ ts. IsFirstWithout P ts a.test) (sym b.whole) (first_of_back P b.before rest a.test b.passed a.first);
+  first = subst (λ ts. IsFirstWithout P ts a.test) (sym b.whole) (first_of_suffix P b.before rest a.test b.passed a.first);
   is = a.is;
 }
 
@@ -46,16 +47,11 @@ first_stop_of_head P x rest stop e is fails = record {
 
 -- the first stop of a prefix is that of the whole list
 pub first_stop_of_prefix : {X : Type 0} (P : X → Type 0) (xs ys : List X) (stop : X → BuildStop) (e : BuildStop) → IsFirstStop P xs stop e → IsFirstStop P (xs ++ ys) stop e
-first_stop_of_prefix P xs ys stop e a = record { test = a.test; first = first_of_front P xs ys a.test a.first; is = a.is }
+first_stop_of_prefix P xs ys stop e a = record { test = a.test; first = first_of_prefix P xs ys a.test a.first; is = a.is }
 
 -- the first stop of a mapped list
 pub first_stop_of_map : {X Y : Type 0} (f : X → Y) (P : Y → Type 0) (xs : List X) (stop : Y → BuildStop) (e : BuildStop) → IsFirstStop (λ x. P (f x)) xs (λ x. stop (f x)) e → IsFirstStop P (map f xs) stop e
 first_stop_of_map f P xs stop e a = record { test = f a.test; first = first_of_map f P xs a.test a.first; is = a.is }
-
--- a weaker property holds of all items too
-pub All-weaker : {X : Type 0} (P Q : X → Type 0) → ((x : X) → P x → Q x) → (xs : List X) → AllByRecursion P xs → AllByRecursion Q xs
-All-weaker P Q w [] a = tt
-All-weaker P Q w (x ∷ xs) a = (w x a.0, All-weaker P Q w xs a.1)
 
 -- of two properties that hold of the same items, the first stop is the same
 pub first_stop_of_same : {X : Type 0} (P Q : X → Type 0) (xs : List X) (stop : X → BuildStop) (e : BuildStop) → ((x : X) → P x → Q x) → ((x : X) → Q x → P x) → IsFirstStop P xs stop e → IsFirstStop Q xs stop e
@@ -65,13 +61,8 @@ first_stop_of_same P Q xs stop e forth back a = record {
     before = a.first.before;
     after = a.first.after;
     whole = a.first.whole;
-    passed = All-weaker P Q forth a.first.before a.first.passed;
+    passed = All-weaker a.first.before forth a.first.passed;
     fails = λ q. a.first.fails (back a.test q);
   };
   is = a.is;
 }
-
--- what holds of the error of a `?` holds of the result with that error
-pub at_exit : {T E : Type 0} (P : Result T E → Type 0) (r : Result T E) (e : E) → IsErrAnd r (λ y. y ≡ e) → P (Err e) → P r
-at_exit P (Ok x) e h q = absurd h
-at_exit P (Err y) e h q = subst (λ z. P (Err z)) (sym h) q

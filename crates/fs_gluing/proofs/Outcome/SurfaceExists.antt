@@ -4,12 +4,12 @@ use Rattle.std.proofs.lemmas.Int.{ints}
 use Rattle.std.specs.BTreeMap.{is_at}
 use Rattle.std.specs.Option.{IsSome}
 use Rattle.std.specs.List.{AllByRecursion, Contains, range_with_len}
-use Rattle.fs_quadratic.proofs.Firsts.{All-append, All-front, All-back}
+use Rattle.fs_plane.specs.Vector.{PlaneVector}
+use Rattle.fs_lists.proofs.All.{All-append, All-prefix, All-suffix, All-weaker, All-of_map}
 use Rattle.fs_quadratic.specs.Radicand.{IsRadicand}
 use Rattle.fs_quadratic.specs.Width.{InWidth}
 use Rattle.fs_fraction.proofs.Divisors.{multiple_positive}
 use Rattle.fs_plane.specs.declared.corners.Corner.{Corner}
-use Rattle.fs_plane.specs.declared.vector.V2.{V2}
 use Rattle.fs_gluing.specs.declared.shapes.Glue.{Glue}
 use Rattle.fs_gluing.specs.declared.shapes.Point.{Point}
 use Rattle.fs_gluing.specs.declared.shapes.Shape.{Shape}
@@ -21,10 +21,9 @@ use Rattle.fs_gluing.specs.Reached.{IsReached}
 use Rattle.fs_gluing.specs.Scaling.{NumberedSide, all_numbered, numbered_sides, numbered_from, common_from, common_multiple, common_den, common_tests, part_tests, scale_tests, PassesScale}
 use Rattle.fs_gluing.specs.Shape.{IsWithinLimits, HasShape, glued_sides, polygons_of}
 use Rattle.fs_gluing.specs.Surface.{GluedPolygons, IsSurface, AreNeighbours}
-use Rattle.fs_gluing.proofs.Base.TestsInOrder.{All-weaker}
-use Rattle.fs_gluing.proofs.Glue.GluedPolygons.{IsPaired, All-from_map, rows_length, joined_neighbours}
-use Rattle.fs_gluing.proofs.Outcome.BuildResult.{reached_along, IsScaled, is_scaled, passed_on, outcome_of_all_passed}
-use Rattle.fs_gluing.proofs.Glue.Partners.{partners_more, listed_has_partner}
+use Rattle.fs_gluing.proofs.Gluing.GluedPolygons.{IsPaired, rows_length, joined_neighbours}
+use Rattle.fs_gluing.proofs.Outcome.BuildResult.{ScaledShape, GluedShape, scaled_shape, reached_along, outcome_of_all_passed}
+use Rattle.fs_gluing.proofs.Gluing.Partners.{partners_more, listed_has_partner}
 
 -- both denominators are above 0
 abbrev pub HasDenominators : Point → Type 0
@@ -50,16 +49,6 @@ common_positive m (s ∷ sides) h a =
     common_positive (common_multiple (common_multiple m s.vector.x.den) s.vector.y.den) sides
     (multiple_positive (common_multiple m s.vector.x.den) s.vector.y.den (multiple_positive m s.vector.x.den h a.0.0) a.0.1) a.1
 
-common_within : (m : ℕ) (sides : List NumberedSide) → InWidth (pos m) → AllByRecursion PassesScale (common_tests m sides) → InWidth (pos (common_from m sides))
-common_within m [] w a = w
-common_within m (s ∷ sides) w a = common_within (common_multiple (common_multiple m s.vector.x.den) s.vector.y.den) sides a.1.0 a.1.1
-
-one_within : InWidth (pos 1)
-one_within = (omega arith, omega arith)
-
-positive : (n : ℕ) → 0 < n → pos 0 <ℤ pos n
-positive n h = omega (arith, ints)
-
 -- ---- the partners of the sides
 
 -- p with the partner v put at k
@@ -69,7 +58,7 @@ put p k v c = cond (is_at (corner_cmp k) c) (Some v) (p c)
 no_partners : ArePartners [] (λ c. None)
 no_partners = record { of_lines = tt; only = λ c e is. absurd (cc is) }
 
-partners_of : (polygons : List (List V2)) (earlier glues : List Glue) (p : Corner → Option Corner) → ArePartners earlier p → AllByRecursion (PassesLine polygons) (line_tests earlier glues)
+partners_of : (polygons : List (List PlaneVector)) (earlier glues : List Glue) (p : Corner → Option Corner) → ArePartners earlier p → AllByRecursion (PassesLine polygons) (line_tests earlier glues)
     → (q : Corner → Option Corner) × ArePartners (earlier ++ glues) q
 partners_of polygons earlier [] p a lines = (p, subst (λ (gs : List Glue). ArePartners gs p) (sym (append-nil earlier)) a)
 partners_of polygons earlier (g ∷ glues) p a lines =
@@ -85,7 +74,7 @@ module _ (d : ℕ) (shape : Shape) (passed : AllByRecursion (PassesOf d shape) (
   P = PassesOf d shape
 
   -- the scaled polygons
-  abbrev polygons : List (List V2)
+  abbrev polygons : List (List PlaneVector)
   polygons = polygons_of shape
 
   -- the glue lines
@@ -93,7 +82,7 @@ module _ (d : ℕ) (shape : Shape) (passed : AllByRecursion (PassesOf d shape) (
   glues = shape.glues
 
   scales : AllByRecursion PassesScale (scale_tests shape.polygons)
-  scales = All-from_map of_scaling P (scale_tests shape.polygons) (All-front P (map of_scaling (scale_tests shape.polygons)) (tests polygons glues) passed)
+  scales = All-of_map of_scaling P (scale_tests shape.polygons) (All-prefix P (map of_scaling (scale_tests shape.polygons)) (tests polygons glues) passed)
 
   -- the tests that come last: each polygon is reached
   abbrev of_reach : List Test
@@ -108,32 +97,30 @@ module _ (d : ℕ) (shape : Shape) (passed : AllByRecursion (PassesOf d shape) (
   of_lines = map of_line (line_tests [] glues) ++ of_sides
 
   scaled_pass : AllByRecursion P (tests polygons glues)
-  scaled_pass = All-back P (map of_scaling (scale_tests shape.polygons)) (tests polygons glues) passed
+  scaled_pass = All-suffix P (map of_scaling (scale_tests shape.polygons)) (tests polygons glues) passed
 
   each : AllByRecursion P (tests_from 0 polygons)
-  each = All-front P (tests_from 0 polygons) of_lines scaled_pass
+  each = All-prefix P (tests_from 0 polygons) of_lines scaled_pass
 
   polygons_then : AllByRecursion P of_lines
-  polygons_then = All-back P (tests_from 0 polygons) of_lines scaled_pass
+  polygons_then = All-suffix P (tests_from 0 polygons) of_lines scaled_pass
 
   lines : AllByRecursion (PassesLine polygons) (line_tests [] glues)
-  lines = All-from_map of_line P (line_tests [] glues) (All-front P (map of_line (line_tests [] glues)) of_sides polygons_then)
+  lines = All-of_map of_line P (line_tests [] glues) (All-prefix P (map of_line (line_tests [] glues)) of_sides polygons_then)
 
   lines_then : AllByRecursion P of_sides
-  lines_then = All-back P (map of_line (line_tests [] glues)) of_sides polygons_then
+  lines_then = All-suffix P (map of_line (line_tests [] glues)) of_sides polygons_then
 
   -- each side is on a glue line
   pub listed : AllByRecursion (Contains (glued_sides glues)) (all_sides polygons)
-  listed = All-from_map side_glued P (all_sides polygons) (All-front P (map side_glued (all_sides polygons)) of_reach lines_then)
+  listed = All-of_map side_glued P (all_sides polygons) (All-prefix P (map side_glued (all_sides polygons)) of_reach lines_then)
 
   reached : AllByRecursion (IsReached (Joins glues)) (range_with_len 0 (length polygons))
-  reached = All-from_map polygon_reached P (range_with_len 0 (length polygons)) (All-back P (map side_glued (all_sides polygons)) of_reach lines_then)
+  reached = All-of_map polygon_reached P (range_with_len 0 (length polygons)) (All-suffix P (map side_glued (all_sides polygons)) of_reach lines_then)
 
-  scaled : AllByRecursion (AllByRecursion HasDenominators) shape.polygons → IsScaled shape (pos (common_den shape.polygons)) polygons
-  scaled points =
-      let some = common_positive 1 (all_numbered shape.polygons) (omega arith) (numbered_from_have 0 shape.polygons points) in
-      let commons = All-front PassesScale (common_tests 1 (all_numbered shape.polygons)) (part_tests (common_den shape.polygons) (all_numbered shape.polygons)) scales in
-      is_scaled shape (pos (common_den shape.polygons)) polygons scales refl refl (positive (common_den shape.polygons) some) (common_within 1 (all_numbered shape.polygons) one_within commons)
+  -- the scaled shape
+  abbrev scaled : IsWithinLimits shape → AllByRecursion (AllByRecursion HasDenominators) shape.polygons → ScaledShape
+  scaled limits points = scaled_shape d shape (common_den shape.polygons) polygons limits scales refl refl (common_positive 1 (all_numbered shape.polygons) (omega arith) (numbered_from_have 0 shape.polygons points))
 
   module _ (p : Corner → Option Corner) (partners : ArePartners glues p) where
     paired : IsPaired d polygons glues p
@@ -141,7 +128,7 @@ module _ (d : ℕ) (shape : Shape) (passed : AllByRecursion (PassesOf d shape) (
       each = each;
       lines = lines;
       partners = partners;
-      sides = All-weaker (Contains (glued_sides glues)) (λ c. IsSome (p c)) (λ c. listed_has_partner glues p c partners) (all_sides polygons) listed;
+      sides = All-weaker (all_sides polygons) (λ c. listed_has_partner glues p c partners) listed;
     }
 
     -- the glued polygons
@@ -150,16 +137,15 @@ module _ (d : ℕ) (shape : Shape) (passed : AllByRecursion (PassesOf d shape) (
 
     near : AllByRecursion (IsReached (AreNeighbours rows)) (range_with_len 0 (length rows))
     near = subst (λ n. AllByRecursion (IsReached (AreNeighbours rows)) (range_with_len 0 n)) (sym (rows_length p 0 polygons))
-        (All-weaker (IsReached (Joins glues)) (IsReached (AreNeighbours rows))
-        (reached_along (Joins glues) (AreNeighbours rows) (joined_neighbours d polygons glues p paired))
-        (range_with_len 0 (length polygons)) reached)
+        (All-weaker (range_with_len 0 (length polygons)) (reached_along (Joins glues) (AreNeighbours rows) (joined_neighbours d polygons glues p paired)) reached)
 
     with_partners : IsRadicand d → IsWithinLimits shape → AllByRecursion (AllByRecursion HasDenominators) shape.polygons → (s : GluedPolygons) × IsSurface s × HasShape d shape s
     with_partners radicand limits points =
-        let den = pos (common_den shape.polygons) in
-        let s : GluedPolygons = record { d = d; den = passed_on den; polygons = rows } in
-        let outcome = outcome_of_all_passed d shape den polygons (scaled points) p paired s radicand limits near refl in
-        (s, outcome.0, outcome.1)
+        let s = scaled limits points in
+        let g : GluedShape s = record { partner = p; rows = rows; paired = paired; rows_are = refl } in
+        let t : GluedPolygons = record { d = d; den = pos s.den; polygons = rows } in
+        let outcome = outcome_of_all_passed s g radicand near t (pos s.den) refl refl in
+        (t, outcome.0, outcome.1)
 
   pub surface_exists : IsRadicand d → IsWithinLimits shape → AllByRecursion (AllByRecursion HasDenominators) shape.polygons → (s : GluedPolygons) × IsSurface s × HasShape d shape s
   surface_exists radicand limits points =

@@ -4,8 +4,9 @@ use Rattle.std.proofs.lemmas.List.Elements.{All-contains, All-from_recursion}
 use Rattle.std.proofs.lemmas.Option.{same_Some}
 use Rattle.std.specs.Option.{option_map}
 use Rattle.std.specs.List.{AllByRecursion, Contains, slice_get}
+use Rattle.fs_plane.specs.Vector.{PlaneVector}
+use Rattle.fs_lists.proofs.Equal.{heads_equal, tails_equal, cons_equal}
 use Rattle.fs_plane.specs.declared.corners.Corner.{Corner}
-use Rattle.fs_plane.specs.declared.vector.V2.{V2}
 use Rattle.fs_gluing.specs.declared.shapes.Glue.{Glue}
 use Rattle.fs_gluing.specs.declared.shapes.Shape.{Shape}
 use Rattle.fs_gluing.specs.declared.surfaces.Side.{Side}
@@ -13,7 +14,7 @@ use Rattle.fs_gluing.specs.FirstFault.{PassesOf, tests_of}
 use Rattle.fs_gluing.specs.Polygons.{at_side, all_sides}
 use Rattle.fs_gluing.specs.Shape.{AreGlued, HasShape, glued_sides, polygons_of}
 use Rattle.fs_gluing.specs.Surface.{GluedPolygons, side_vectors}
-use Rattle.fs_gluing.proofs.Glue.GluedPolygons.{rows_hold}
+use Rattle.fs_gluing.proofs.Gluing.GluedPolygons.{rows_hold}
 use Rattle.fs_gluing.proofs.Scale.ScaledVectors.{at_side-map}
 use Rattle.fs_gluing.proofs.Outcome.SurfaceExists.{listed}
 
@@ -22,21 +23,12 @@ use Rattle.fs_gluing.proofs.Outcome.SurfaceExists.{listed}
 same_side : (a b : Side) → a.vector ≡ b.vector → a.partner ≡ b.partner → a ≡ b
 same_side a b vectors partners = λ i. record { vector = vectors i; partner = partners i }
 
-same_head : {X : Type 0} (x y : X) (xs ys : List X) → x ∷ xs ≡ y ∷ ys → x ≡ y
-same_head x y xs ys e = cc
-
-same_tail : {X : Type 0} (x y : X) (xs ys : List X) → x ∷ xs ≡ y ∷ ys → xs ≡ ys
-same_tail x y xs ys e = cc
-
-same_list : {X : Type 0} (x y : X) (xs ys : List X) → x ≡ y → xs ≡ ys → x ∷ xs ≡ y ∷ ys
-same_list x y xs ys head tail = λ i. head i ∷ tail i
-
 same_row : (p q : List Side) → side_vectors p ≡ side_vectors q → ((j : ℕ) (a b : Side) → slice_get p j ≡ Some a → slice_get q j ≡ Some b → a.partner ≡ b.partner) → p ≡ q
 same_row [] [] e h = refl
 same_row [] (b ∷ q) e h = cc
 same_row (a ∷ p) [] e h = cc
 same_row (a ∷ p) (b ∷ q) e h =
-    same_list a b p q (same_side a b (same_head _ _ _ _ e) (h 0 a b refl refl)) (same_row p q (same_tail _ _ _ _ e) (λ j. h (suc j)))
+    cons_equal a b p q (same_side a b (heads_equal _ _ _ _ e) (h 0 a b refl refl)) (same_row p q (tails_equal _ _ _ _ e) (λ j. h (suc j)))
 
 -- the side at c has the same partner in both
 abbrev HasOnePartner : List (List Side) → List (List Side) → Corner → Type 0
@@ -47,9 +39,9 @@ same_rows [] [] e h = refl
 same_rows [] (q ∷ qs) e h = cc
 same_rows (p ∷ ps) [] e h = cc
 same_rows (p ∷ ps) (q ∷ qs) e h =
-    same_list p q ps qs
-    (same_row p q (same_head _ _ _ _ e) (λ j. h (record { polygon = 0; side = j })))
-    (same_rows ps qs (same_tail _ _ _ _ e) (λ c. h (record { polygon = suc c.polygon; side = c.side })))
+    cons_equal p q ps qs
+    (same_row p q (heads_equal _ _ _ _ e) (λ j. h (record { polygon = 0; side = j })))
+    (same_rows ps qs (tails_equal _ _ _ _ e) (λ c. h (record { polygon = suc c.polygon; side = c.side })))
 
 -- ---- the partners on the lines
 
@@ -68,16 +60,16 @@ partners_on_lines ps qs (g ∷ glues) in_p in_q = (
 )
 
 -- what holds of all sides holds of a side that exists
-side_holds : (P : Corner → Type 0) (polygons : List (List V2)) (ps : List (List Side)) (c : Corner) (a : Side) → map side_vectors ps ≡ polygons → AllByRecursion P (all_sides polygons)
+side_holds : (P : Corner → Type 0) (polygons : List (List PlaneVector)) (ps : List (List Side)) (c : Corner) (a : Side) → map side_vectors ps ≡ polygons → AllByRecursion P (all_sides polygons)
     → at_side ps c ≡ Some a → P c
 side_holds P polygons ps c a same h there =
     let vector : at_side polygons c ≡ Some a.vector =
-    ap (λ (vs : List (List V2)). at_side vs c) (sym same) ∙ at_side-map (λ (side : Side). side.vector) ps c ∙ ap (option_map (λ (side : Side). side.vector)) there in
+    ap (λ (vs : List (List PlaneVector)). at_side vs c) (sym same) ∙ at_side-map (λ (side : Side). side.vector) ps c ∙ ap (option_map (λ (side : Side). side.vector)) there in
     let same_number : 0 + c.polygon ≡ c.polygon = omega arith in
     subst (λ n. P (record { polygon = n; side = c.side })) same_number (rows_hold P 0 polygons c.polygon c.side a.vector h vector)
 
 -- where each side is on a line, the lines give all partners
-partners_of_all : (polygons : List (List V2)) (glues : List Glue) (ps qs : List (List Side)) → map side_vectors ps ≡ polygons → AllByRecursion (Contains (glued_sides glues)) (all_sides polygons)
+partners_of_all : (polygons : List (List PlaneVector)) (glues : List Glue) (ps qs : List (List Side)) → map side_vectors ps ≡ polygons → AllByRecursion (Contains (glued_sides glues)) (all_sides polygons)
     → AllByRecursion (λ g. AreGlued ps g.one g.two) glues → AllByRecursion (λ g. AreGlued qs g.one g.two) glues → (c : Corner) → HasOnePartner ps qs c
 partners_of_all polygons glues ps qs same listed in_p in_q c a b at_p at_q =
     All-contains (HasOnePartner ps qs) (glued_sides glues) c (All-from_recursion _ (glued_sides glues) (partners_on_lines ps qs glues in_p in_q))

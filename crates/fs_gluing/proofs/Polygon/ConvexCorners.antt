@@ -6,17 +6,18 @@ use Rattle.std.specs.declared.cmp.Ordering.{Ordering}
 use Rattle.std.specs.Bool.{◌==◌}
 use Rattle.std.specs.Ordering.{ordering_index}
 use Rattle.std.specs.declared.cmp.Ordering.TheVariants.{Less, Equal, Greater}
+use Rattle.fs_plane.specs.declared.sites.Site.{Site}
+use Rattle.fs_plane.specs.declared.corners.Corner.{Corner}
 use Rattle.fs_quadratic.specs.Ring.{Quadratic, IsPositive, sign}
 use Rattle.fs_quadratic.specs.Radicand.{IsRadicand}
 use Rattle.fs_quadratic.proofs.Signs.{sign-positive, positive_of_sign}
 use Rattle.fs_quadratic.proofs.SquareRoot.{radicand_no_square}
 use Rattle.fs_quadratic.specs.Width.{Fits, MulFits}
-use Rattle.fs_plane.specs.declared.vector.V2.{V2}
 use Rattle.fs_plane.specs.declared.sites.Place.{Place}
 use Rattle.fs_plane.specs.declared.sites.Site.TheVariants as sites
 use Rattle.fs_plane.specs.Checked.{place, IsFirstOfThree, first, second, third}
 use Rattle.fs_plane.specs.Formulas.{cross_after}
-use Rattle.fs_plane.specs.Vector.{vector_zero, cross}
+use Rattle.fs_plane.specs.Vector.{vector_zero, cross, PlaneVector}
 use Rattle.fs_plane.proofs.FormulaLaws.{cross_value, cross_stops}
 use Rattle.fs_gluing.specs.declared.faults.BuildStop.{BuildStop}
 use Rattle.fs_gluing.specs.declared.faults.Fault.TheVariants as faults
@@ -25,16 +26,16 @@ use Rattle.fs_gluing.specs.Convex.{CornerSides, corners_of, corners_from, last_s
 use Rattle.fs_gluing.specs.FirstFault.{PolygonTest, cross_fits, corner_convex, PassesIn, corner_tests}
 use Rattle.fs_gluing.specs.TestsInOrder.{PassesBefore, IsFirstStop}
 use Rattle.fs_gluing.proofs.Base.TestsInOrder.{passes_before_more, passes_before_same, first_stop_of_rest, first_stop_of_head, first_stop_of_prefix}
-use Rattle.fs_gluing.proofs.Base.Items.{IsItem}
+use Rattle.fs_lists.proofs.Items.{IsItem, drop_item}
 use Rattle.fs_gluing.proofs.Base.Equality.{false_not_true}
 use Rattle.fs_gluing.proofs.Polygon.Boundary.{polygon_stop}
 
-last_side_at : (side : V2) (sides : List V2) → unwrap_or (slice_get (side ∷ sides) (length sides)) vector_zero ≡ last_side (side ∷ sides)
+last_side_at : (side : PlaneVector) (sides : List PlaneVector) → unwrap_or (slice_get (side ∷ sides) (length sides)) vector_zero ≡ last_side (side ∷ sides)
 last_side_at side [] = refl
 last_side_at side (next ∷ sides) = last_side_at next sides
 
 -- the last side is the item at the last index
-pub last_side_is : (sides : List V2) → unwrap_or (slice_get sides (length sides - 1)) vector_zero ≡ last_side sides
+pub last_side_is : (sides : List PlaneVector) → unwrap_or (slice_get sides (length sides - 1)) vector_zero ≡ last_side sides
 last_side_is [] = refl
 last_side_is (side ∷ sides) =
     let e : length (side ∷ sides) - 1 ≡ length sides = omega arith in
@@ -60,7 +61,7 @@ same_stop a b h = cc
 same_place : (p q : ℕ) → ◌≡◌ {A = Result Quadratic Place} (Err (place p)) (Err (place q)) → q ≡ p
 same_place p q h = ap (λ (x : Place). x.0) (same_stop (place p) (place q) h)
 
-module _ (d : ℕ) (sides : List V2) (j : ℕ) (corner : CornerSides) where
+module _ (d : ℕ) (sides : List PlaneVector) (j : ℕ) (corner : CornerSides) where
   -- the computation of the cross product of the two sides
   abbrev crossed : Result Quadratic Place
   crossed = cross_after 0 d corner.before corner.after
@@ -116,38 +117,41 @@ module _ (d : ℕ) (sides : List V2) (j : ℕ) (corner : CornerSides) where
       subst (StopsAt i) (sym here) (fails_at i 3 (cross_fits j corner 1 ∷ cross_fits j corner 2 ∷ []) _ refl (stops_at_one_place p 1 e one, (stops_at_one_place p 2 e two, tt)) (subst (λ n. crossed ≡ Err (place n)) here e))
 
   -- where it overflows, the test of that place is the first to fail
-  pub corner_overflows : (i m n p : ℕ) → m ≡ i → n ≡ j → crossed ≡ Err (place p)
-      → IsFirstStop (PassesIn d sides) (corner_tests j (corner ∷ [])) (polygon_stop i sides) (stops.Overflow (sites.Corner m n p))
-  corner_overflows i m n p same_i same_j e =
+  pub corner_overflows : (i p : ℕ) (site : Site) → site ≡ sites.Corner i j p → crossed ≡ Err (place p)
+      → IsFirstStop (PassesIn d sides) (corner_tests j (corner ∷ [])) (polygon_stop i sides) (stops.Overflow site)
+  corner_overflows i p site is e =
       let a : StopsAt i p = stops_at i p e ((cross_stops 0 d corner.before corner.after (place p)).0 e) in
-      record { test = a.test; first = a.first; is = ap (λ k. stops.Overflow (sites.Corner k n p)) same_i ∙ ap (λ k. stops.Overflow (sites.Corner i k p)) same_j ∙ a.is }
+      record { test = a.test; first = a.first; is = ap (λ s. stops.Overflow s) is ∙ a.is }
 
 -- ---- all corners
 
 -- the corners before j pass, and this side ends at corner j
-pub record PassesCornersUpTo (d : ℕ) (sides : List V2) (j : ℕ) (before : V2) : Type 0 where
+pub record PassesCornersUpTo (d : ℕ) (sides : List PlaneVector) (j : ℕ) (before : PlaneVector) : Type 0 where
   pub passed : PassesBefore (PassesIn d sides) (corner_tests 0 (corners_of sides)) (corner_tests j (corners_from before (drop j sides)))
 
-next_tests : (sides : List V2) (j : ℕ) (before side : V2) → IsItem sides j side
+next_tests : (sides : List PlaneVector) (j : ℕ) (before side : PlaneVector) → IsItem sides j side
     → corner_tests j (corners_from before (drop j sides)) ≡ corner_tests j ((record { before = before; after = side }) ∷ []) ++ corner_tests (j + 1) (corners_from side (drop (j + 1) sides))
-next_tests sides j before side item = ap (λ ss. corner_tests j (corners_from before ss)) (drop_more sides j side item.inside ∙ ap (λ s. s ∷ drop (j + 1) sides) (sym item.is))
+next_tests sides j before side item = ap (λ ss. corner_tests j (corners_from before ss)) (drop_item sides j side item)
 
 -- one more corner passes
-pub corners_more : (d : ℕ) (sides : List V2) (j : ℕ) (before side : V2) → IsItem sides j side → PassesCornersUpTo d sides j before
-    → AllByRecursion (PassesIn d sides) (corner_tests j ((record { before = before; after = side }) ∷ [])) → PassesCornersUpTo d sides (j + 1) side
-corners_more d sides j before side item t a =
-    record { passed = passes_before_more _ _ (corner_tests j ((record { before = before; after = side }) ∷ [])) _ (passes_before_same _ _ _ _ (next_tests sides j before side item) t.passed) a }
+pub corners_more : (d : ℕ) (sides : List PlaneVector) (i j : ℕ) (before side : PlaneVector) (c : Corner) → c ≡ record { polygon = i; side = j } → IsItem sides j side → PassesCornersUpTo d sides j before
+    → AllByRecursion (PassesIn d sides) (corner_tests c.side ((record { before = before; after = side }) ∷ [])) → PassesCornersUpTo d sides (j + 1) side
+corners_more d sides i j before side c is item t a = record {
+  passed = passes_before_more _ _ (corner_tests j ((record { before = before; after = side }) ∷ [])) _ (passes_before_same _ _ _ _ (next_tests sides j before side item) t.passed)
+      (subst (λ (k : Corner). AllByRecursion (PassesIn d sides) (corner_tests k.side ((record { before = before; after = side }) ∷ []))) is a);
+}
 
 -- the next corner fails, and its stop is the first of all corners
-pub corner_fails : (d : ℕ) (sides : List V2) (i j : ℕ) (before side : V2) (e : BuildStop) → IsItem sides j side → PassesCornersUpTo d sides j before
-    → IsFirstStop (PassesIn d sides) (corner_tests j ((record { before = before; after = side }) ∷ [])) (polygon_stop i sides) e
+pub corner_fails : (d : ℕ) (sides : List PlaneVector) (i j : ℕ) (before side : PlaneVector) (e : BuildStop) (c : Corner) → c ≡ record { polygon = i; side = j } → IsItem sides j side → PassesCornersUpTo d sides j before
+    → IsFirstStop (PassesIn d sides) (corner_tests c.side ((record { before = before; after = side }) ∷ [])) (polygon_stop c.polygon sides) e
     → IsFirstStop (PassesIn d sides) (corner_tests 0 (corners_of sides)) (polygon_stop i sides) e
-corner_fails d sides i j before side e item t a =
-    first_stop_of_rest _ _ _ _ _ (passes_before_same _ _ _ _ (next_tests sides j before side item) t.passed) (first_stop_of_prefix _ _ _ _ _ a)
+corner_fails d sides i j before side e c is item t a =
+    first_stop_of_rest _ _ _ _ _ (passes_before_same _ _ _ _ (next_tests sides j before side item) t.passed)
+    (first_stop_of_prefix _ _ _ _ _ (subst (λ (k : Corner). IsFirstStop (PassesIn d sides) (corner_tests k.side ((record { before = before; after = side }) ∷ [])) (polygon_stop k.polygon sides) e) is a))
 
 -- ---- the count of rises
 
 -- the rises so far plus those at the corners from j on are all rises
-pub record CountsRisesUpTo (d : ℕ) (sides : List V2) (j : ℕ) (before : V2) (rises : ℕ) : Type 0 where
+pub record CountsRisesUpTo (d : ℕ) (sides : List PlaneVector) (j : ℕ) (before : PlaneVector) (rises : ℕ) : Type 0 where
   pub few : rises ≤ j
   pub counted : rises + count_by (is_rise d) (corners_from before (drop j sides)) ≡ count_by (is_rise d) (corners_of sides)

@@ -1,7 +1,7 @@
 -- The tests of a polygon: its number of sides, its positions, its corners, its turning number.
 use Rattle.std.proofs.Common.{◌≡◌, ◌≢◌, ◌≤◌, ◌<◌, ℕ, List, [], ◌∷◌, ◌++◌, length, sym, ap, refl, arith, append_assoc}
 use Rattle.std.specs.List.{AllByRecursion, count_by}
-use Rattle.fs_plane.specs.declared.vector.V2.{V2}
+use Rattle.fs_plane.specs.Vector.{PlaneVector}
 use Rattle.fs_gluing.specs.declared.faults.BuildStop.{BuildStop}
 use Rattle.fs_gluing.specs.declared.faults.Fault.TheVariants as faults
 use Rattle.fs_gluing.specs.declared.faults.BuildStop.TheVariants as stops
@@ -11,7 +11,7 @@ use Rattle.fs_gluing.specs.TestsInOrder.{PassesBefore, IsFirstStop}
 use Rattle.fs_gluing.proofs.Base.TestsInOrder.{passes_before_more, all_from_passes_before, first_stop_of_rest, first_stop_of_head, first_stop_of_prefix}
 use Rattle.fs_gluing.proofs.Polygon.Boundary.{closing_tests, polygon_stop}
 
-module _ (d i : ℕ) (sides : List V2) where
+module _ (d i : ℕ) (sides : List PlaneVector) where
   -- the tests after the one that the polygon closes
   abbrev later : List PolygonTest
   later = corner_tests 0 (corners_of sides) ++ turning_number_one ∷ []

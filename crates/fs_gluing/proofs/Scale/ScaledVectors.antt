@@ -6,15 +6,16 @@ use Rattle.std.proofs.lemmas.Option.{same_Some, slice_get-map}
 use Rattle.std.specs.Int.{◌∣◌}
 use Rattle.std.specs.Option.{option_map, option_and_then}
 use Rattle.std.specs.List.{AllByRecursion, slice_get}
+use Rattle.fs_plane.specs.Vector.{PlaneVector}
+use Rattle.fs_lists.proofs.Items.{inner_item-map}
 use Rattle.fs_ring.proofs.Integers.{integer_ring}
 use Rattle.fs_ring.proofs.Solver.{identity, ◌⊗◌, ◌≐◌}
-use Rattle.fs_quadratic.proofs.Firsts.{All-front, All-back}
+use Rattle.fs_lists.proofs.All.{All-prefix, All-suffix}
 use Rattle.fs_quadratic.proofs.Laws.{quadratic_eq}
 use Rattle.fs_fraction.specs.Divisor.{gcd}
 use Rattle.fs_fraction.specs.Fraction.{Fraction, HasValue, scale}
 use Rattle.fs_fraction.proofs.Divisors.{gcd-is}
 use Rattle.fs_plane.specs.declared.corners.Corner.{Corner}
-use Rattle.fs_plane.specs.declared.vector.V2.{V2}
 use Rattle.fs_gluing.specs.declared.shapes.Point.{Point}
 use Rattle.fs_gluing.specs.declared.shapes.Shape.{Shape}
 use Rattle.fs_gluing.specs.declared.surfaces.Side.{Side}
@@ -70,9 +71,9 @@ in_polygons : (P : Point → Type 0) (i : ℕ) (polygons : List (List Point)) (k
     → option_and_then (λ (points : List Point). slice_get points n) (slice_get polygons k) ≡ Some point → P point
 in_polygons P i [] k n point a e = cc
 in_polygons P i (points ∷ polygons) zero n point a e =
-    in_row P i 0 points n point (All-front (λ s. P s.vector) (numbered_sides i 0 points) (numbered_from (i + 1) polygons) a) e
+    in_row P i 0 points n point (All-prefix (λ s. P s.vector) (numbered_sides i 0 points) (numbered_from (i + 1) polygons) a) e
 in_polygons P i (points ∷ polygons) (suc k) n point a e =
-    in_polygons P (i + 1) polygons k n point (All-back (λ s. P s.vector) (numbered_sides i 0 points) (numbered_from (i + 1) polygons) a) e
+    in_polygons P (i + 1) polygons k n point (All-suffix (λ s. P s.vector) (numbered_sides i 0 points) (numbered_from (i + 1) polygons) a) e
 
 -- ---- a multiple over the denominator
 
@@ -87,13 +88,9 @@ has_value x den h =
 
 -- ---- the sides of mapped polygons
 
-at_mapped : {X Y : Type 0} (f : X → Y) (o : Option (List X)) (n : ℕ) → option_and_then (λ row. slice_get row n) (option_map (map f) o) ≡ option_map f (option_and_then (λ row. slice_get row n) o)
-at_mapped f None n = refl
-at_mapped f (Some row) n = slice_get-map f row n
-
 -- a side of mapped polygons is the value of the map at that side
 pub at_side-map : {X Y : Type 0} (f : X → Y) (rows : List (List X)) (c : Corner) → at_side (map (map f) rows) c ≡ option_map f (at_side rows c)
-at_side-map f rows c = ap (option_and_then (λ row. slice_get row c.side)) (slice_get-map (map f) rows c.polygon) ∙ at_mapped f (slice_get rows c.polygon) c.side
+at_side-map f rows c = ap (option_and_then (λ row. slice_get row c.side)) (slice_get-map (map f) rows c.polygon) ∙ inner_item-map f (slice_get rows c.polygon) c.side
 
 -- the vectors of a surface over the common denominator are those of the shape
 pub vectors_scaled : (shape : Shape) (polygons : List (List Side)) → map side_vectors polygons ≡ polygons_of shape → (c : Corner) (point : Point) (side : Side)
@@ -102,6 +99,6 @@ vectors_scaled shape polygons same c point side there here =
     let den = common_den shape.polygons in
     let own : at_side (map side_vectors polygons) c ≡ Some side.vector = at_side-map (λ (s : Side). s.vector) polygons c ∙ ap (option_map (λ (s : Side). s.vector)) here in
     let made : at_side (polygons_of shape) c ≡ Some (scaled_vector den point) = at_side-map (scaled_vector den) shape.polygons c ∙ ap (option_map (scaled_vector den)) there in
-    let is : scaled_vector den point ≡ side.vector = same_Some _ _ (sym made ∙ (ap (λ (ps : List (List V2)). at_side ps c) (sym same) ∙ own)) in
+    let is : scaled_vector den point ≡ side.vector = same_Some _ _ (sym made ∙ (ap (λ (ps : List (List PlaneVector)). at_side ps c) (sym same) ∙ own)) in
     let divides : IsMultiple den point = in_polygons (IsMultiple den) 0 shape.polygons c.polygon c.side point (each_divides 1 (all_numbered shape.polygons)) there in
     subst (IsScaledVector den point) is (has_value point.x den divides.0, has_value point.y den divides.1)

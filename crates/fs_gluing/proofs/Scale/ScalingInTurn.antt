@@ -5,10 +5,10 @@ use Rattle.std.proofs.lemmas.List.{drop_more}
 use Rattle.std.proofs.Math.Nat.{div-le_self}
 use Rattle.std.specs.Int.{w128}
 use Rattle.std.specs.List.{AllByRecursion}
+use Rattle.fs_plane.specs.Vector.{PlaneVector}
 use Rattle.fs_quadratic.specs.Width.{InWidth}
 use Rattle.fs_fraction.proofs.Inverses.{through_bits}
 use Rattle.fs_plane.specs.declared.corners.Corner.{Corner}
-use Rattle.fs_plane.specs.declared.vector.V2.{V2}
 use Rattle.fs_plane.specs.declared.sites.Site.TheVariants as sites
 use Rattle.fs_gluing.specs.declared.shapes.Point.{Point}
 use Rattle.fs_gluing.specs.declared.faults.BuildStop.{BuildStop}
@@ -17,25 +17,21 @@ use Rattle.fs_gluing.specs.Scaling.{NumberedSide, numbered_sides, numbered_from,
 use Rattle.fs_gluing.specs.FirstFault.{of_scaling, stop_of}
 use Rattle.fs_gluing.specs.TestsInOrder.{PassesBefore, IsFirstStop}
 use Rattle.fs_gluing.proofs.Base.TestsInOrder.{passes_before_more, passes_before_same, first_stop_of_rest, first_stop_of_head, first_stop_of_prefix}
-use Rattle.fs_gluing.proofs.Base.Items.{IsItem}
+use Rattle.fs_lists.proofs.Items.{IsItem, drop_item}
 
 -- the stop of a test of scaling
 abbrev pub scale_stop : ScaleTest → BuildStop
 scale_stop test = stop_of (of_scaling test)
 
--- a list from index i on is the item there and the list from i + 1 on
-next_item : {X : Type 0} (xs : List X) (i : ℕ) (x : X) → IsItem xs i x → drop i xs ≡ x ∷ drop (i + 1) xs
-next_item xs i x item = drop_more xs i x item.inside ∙ ap (λ y. y ∷ drop (i + 1) xs) (sym item.is)
-
 -- ---- polygon i from side j on, and the polygons from i on
 pub next_side : (i : ℕ) (points : List Point) (j : ℕ) (point : Point) → IsItem points j point
     → numbered_sides i j (drop j points) ≡ numbered_sides i j (point ∷ []) ++ numbered_sides i (j + 1) (drop (j + 1) points)
-next_side i points j point item = ap (numbered_sides i j) (next_item points j point item)
+next_side i points j point item = ap (numbered_sides i j) (drop_item points j point item)
 
 -- the sides from polygon i on are those of polygon i and those from polygon i + 1 on
 pub next_polygon : (polygons : List (List Point)) (i : ℕ) (points : List Point) → IsItem polygons i points
     → numbered_from i (drop i polygons) ≡ numbered_sides i 0 points ++ numbered_from (i + 1) (drop (i + 1) polygons)
-next_polygon polygons i points item = ap (numbered_from i) (next_item polygons i points item)
+next_polygon polygons i points item = ap (numbered_from i) (drop_item polygons i points item)
 
 -- ---- the common denominator
 
@@ -82,16 +78,19 @@ abbrev pub HasCommonOfSides : ℕ → ℕ → List Point → ℕ → ℕ → Typ
 HasCommonOfSides m i points j den = HasCommonUpTo m (numbered_sides i 0 points) (numbered_sides i j (drop j points)) den
 
 -- the common multiple after one more side
-pub row_more : (m i : ℕ) (points : List Point) (j den k : ℕ) (point : Point) → IsItem points j point → HasCommonOfSides m i points j den → 0 < k → k < 2 ^ 127
-    → k ≡ common_from den (numbered_sides i j (point ∷ [])) → AllByRecursion PassesScale (common_tests den (numbered_sides i j (point ∷ []))) → HasCommonOfSides m i points (j + 1) k
-row_more m i points j den k point item c =
-    common_more m _ (numbered_sides i j (point ∷ [])) _ den k (left_same m _ _ _ den (next_side i points j point item) c)
+pub row_more : (m i : ℕ) (points : List Point) (j den k : ℕ) (point : Point) (c : Corner) → c ≡ record { polygon = i; side = j } → IsItem points j point → HasCommonOfSides m i points j den → 0 < k → k < 2 ^ 127
+    → k ≡ common_from den (numbered_sides c.polygon c.side (point ∷ [])) → AllByRecursion PassesScale (common_tests den (numbered_sides c.polygon c.side (point ∷ []))) → HasCommonOfSides m i points (j + 1) k
+row_more m i points j den k point c is item h up within value a =
+    common_more m _ (numbered_sides i j (point ∷ [])) _ den k (left_same m _ _ _ den (next_side i points j point item) h) up within
+    (value ∙ ap (λ (e : Corner). common_from den (numbered_sides e.polygon e.side (point ∷ []))) is)
+    (subst (λ (e : Corner). AllByRecursion PassesScale (common_tests den (numbered_sides e.polygon e.side (point ∷ [])))) is a)
 
 -- a denominator of the next side overflows
-pub row_fails : (m i : ℕ) (points : List Point) (j den : ℕ) (point : Point) (e : BuildStop) → IsItem points j point → HasCommonOfSides m i points j den
-    → IsFirstStop PassesScale (common_tests den (numbered_sides i j (point ∷ []))) scale_stop e → IsFirstStop PassesScale (common_tests m (numbered_sides i 0 points)) scale_stop e
-row_fails m i points j den point e item c =
-    common_fails m _ (numbered_sides i j (point ∷ [])) _ den e (left_same m _ _ _ den (next_side i points j point item) c)
+pub row_fails : (m i : ℕ) (points : List Point) (j den : ℕ) (point : Point) (e : BuildStop) (c : Corner) → c ≡ record { polygon = i; side = j } → IsItem points j point → HasCommonOfSides m i points j den
+    → IsFirstStop PassesScale (common_tests den (numbered_sides c.polygon c.side (point ∷ []))) scale_stop e → IsFirstStop PassesScale (common_tests m (numbered_sides i 0 points)) scale_stop e
+row_fails m i points j den point e c is item h a =
+    common_fails m _ (numbered_sides i j (point ∷ [])) _ den e (left_same m _ _ _ den (next_side i points j point item) h)
+    (subst (λ (k : Corner). IsFirstStop PassesScale (common_tests den (numbered_sides k.polygon k.side (point ∷ []))) scale_stop e) is a)
 
 -- for all polygons
 abbrev pub HasCommonOfPolygons : List (List Point) → ℕ → ℕ → Type 0
@@ -156,7 +155,7 @@ module _ {X Y : Type 0} (f : X → Y) (xs : List X) (den : ℕ) (all : List Numb
     values = ap (λ zs. zs ++ map f (drop (j + 1) xs)) more
         ∙ append_assoc ys (y ∷ []) (map f (drop (j + 1) xs))
         ∙ ap (λ z. ys ++ (z ∷ map f (drop (j + 1) xs))) is
-        ∙ ap (λ zs. ys ++ map f zs) (sym (next_item xs j x item))
+        ∙ ap (λ zs. ys ++ map f zs) (sym (drop_item xs j x item))
         ∙ p.values;
     passed = passes_before_more _ _ (part_tests den own) _ (before_parts own rest left next p.passed) a;
   }
@@ -166,33 +165,37 @@ module _ {X Y : Type 0} (f : X → Y) (xs : List X) (den : ℕ) (all : List Numb
   parts_fail j ys own rest left e next p a = first_stop_of_rest _ _ _ _ _ (before_parts own rest left next p.passed) (first_stop_of_prefix _ _ _ _ _ a)
 
 -- for the sides of one polygon
-abbrev pub HasScaledSides : ℕ → ℕ → List Point → ℕ → List V2 → Type 0
+abbrev pub HasScaledSides : ℕ → ℕ → List Point → ℕ → List PlaneVector → Type 0
 HasScaledSides den i points j row = HasScaledUpTo (scaled_vector den) points j row den (numbered_sides i 0 points) (numbered_sides i j (drop j points))
 
 -- one more side is scaled
-pub row_scaled_more : (den i : ℕ) (points : List Point) (j : ℕ) (row row' : List V2) (point : Point) (vector : V2) → IsItem points j point → HasScaledSides den i points j row
-    → vector ≡ scaled_vector den point → row' ≡ row ++ vector ∷ [] → AllByRecursion PassesScale (part_tests den (numbered_sides i j (point ∷ []))) → HasScaledSides den i points (j + 1) row'
-row_scaled_more den i points j row row' point vector item =
-    parts_more (scaled_vector den) points den (numbered_sides i 0 points) j row row' (numbered_sides i j (point ∷ [])) _ _ point vector item (next_side i points j point item)
+pub row_scaled_more : (den i : ℕ) (points : List Point) (j : ℕ) (row row' : List PlaneVector) (point : Point) (vector : PlaneVector) (c : Corner) → c ≡ record { polygon = i; side = j } → IsItem points j point
+    → HasScaledSides den i points j row → vector ≡ scaled_vector den point → row' ≡ row ++ vector ∷ [] → AllByRecursion PassesScale (part_tests den (numbered_sides c.polygon c.side (point ∷ [])))
+    → HasScaledSides den i points (j + 1) row'
+row_scaled_more den i points j row row' point vector c is item h value more a =
+    parts_more (scaled_vector den) points den (numbered_sides i 0 points) j row row' (numbered_sides i j (point ∷ [])) _ _ point vector item (next_side i points j point item) h value more
+    (subst (λ (e : Corner). AllByRecursion PassesScale (part_tests den (numbered_sides e.polygon e.side (point ∷ [])))) is a)
 
 -- a part of the next side overflows
-pub row_scaled_fails : (den i : ℕ) (points : List Point) (j : ℕ) (row : List V2) (point : Point) (e : BuildStop) → IsItem points j point → HasScaledSides den i points j row
-    → IsFirstStop PassesScale (part_tests den (numbered_sides i j (point ∷ []))) scale_stop e → IsFirstStop PassesScale (part_tests den (numbered_sides i 0 points)) scale_stop e
-row_scaled_fails den i points j row point e item =
-    parts_fail (scaled_vector den) points den (numbered_sides i 0 points) j row (numbered_sides i j (point ∷ [])) _ _ e (next_side i points j point item)
+pub row_scaled_fails : (den i : ℕ) (points : List Point) (j : ℕ) (row : List PlaneVector) (point : Point) (e : BuildStop) (c : Corner) → c ≡ record { polygon = i; side = j } → IsItem points j point
+    → HasScaledSides den i points j row → IsFirstStop PassesScale (part_tests den (numbered_sides c.polygon c.side (point ∷ []))) scale_stop e
+    → IsFirstStop PassesScale (part_tests den (numbered_sides i 0 points)) scale_stop e
+row_scaled_fails den i points j row point e c is item h a =
+    parts_fail (scaled_vector den) points den (numbered_sides i 0 points) j row (numbered_sides i j (point ∷ [])) _ _ e (next_side i points j point item) h
+    (subst (λ (k : Corner). IsFirstStop PassesScale (part_tests den (numbered_sides k.polygon k.side (point ∷ []))) scale_stop e) is a)
 
 -- for all polygons
-abbrev pub HasScaledPolygons : ℕ → List (List Point) → ℕ → List (List V2) → Type 0
+abbrev pub HasScaledPolygons : ℕ → List (List Point) → ℕ → List (List PlaneVector) → Type 0
 HasScaledPolygons den polygons i rows = HasScaledUpTo (map (scaled_vector den)) polygons i rows den (all_numbered polygons) (numbered_from i (drop i polygons))
 
 -- one more polygon is scaled
-pub polygons_scaled_more : (den : ℕ) (polygons : List (List Point)) (i : ℕ) (rows rows' : List (List V2)) (points : List Point) (row : List V2) → IsItem polygons i points → HasScaledPolygons den polygons i rows
+pub polygons_scaled_more : (den : ℕ) (polygons : List (List Point)) (i : ℕ) (rows rows' : List (List PlaneVector)) (points : List Point) (row : List PlaneVector) → IsItem polygons i points → HasScaledPolygons den polygons i rows
     → row ≡ map (scaled_vector den) points → rows' ≡ rows ++ row ∷ [] → AllByRecursion PassesScale (part_tests den (numbered_sides i 0 points)) → HasScaledPolygons den polygons (i + 1) rows'
 polygons_scaled_more den polygons i rows rows' points row item =
     parts_more (map (scaled_vector den)) polygons den (all_numbered polygons) i rows rows' (numbered_sides i 0 points) _ _ points row item (next_polygon polygons i points item)
 
 -- a part of the next polygon overflows
-pub polygons_scaled_fail : (den : ℕ) (polygons : List (List Point)) (i : ℕ) (rows : List (List V2)) (points : List Point) (e : BuildStop) → IsItem polygons i points → HasScaledPolygons den polygons i rows
+pub polygons_scaled_fail : (den : ℕ) (polygons : List (List Point)) (i : ℕ) (rows : List (List PlaneVector)) (points : List Point) (e : BuildStop) → IsItem polygons i points → HasScaledPolygons den polygons i rows
     → IsFirstStop PassesScale (part_tests den (numbered_sides i 0 points)) scale_stop e → IsFirstStop PassesScale (part_tests den (all_numbered polygons)) scale_stop e
 polygons_scaled_fail den polygons i rows points e item =
     parts_fail (map (scaled_vector den)) polygons den (all_numbered polygons) i rows (numbered_sides i 0 points) _ _ e (next_polygon polygons i points item)
@@ -201,16 +204,19 @@ polygons_scaled_fail den polygons i rows points e item =
 
 -- ---- a factor and a part after they were stored in 128 bits
 
+-- a part after it was stored
+pub part_passed : (w z : ℤ) → InWidth z → w ≡ z → to_z w128 (of_z w128 w) ≡ z
+part_passed w z within is = through_bits w (subst InWidth (sym is) within) ∙ is
+
+-- a denominator after it was stored
+pub den_passed : (n : ℤ) (den : ℕ) → den < 2 ^ 127 → n ≡ pos den → to_z w128 (of_z w128 n) ≡ pos den
+den_passed n den below is = part_passed n (pos den) (omega (arith, ints), omega (arith, ints)) is
+
 -- the factor after it was stored
 pub factor_passed : (den m : ℕ) (f : ℤ) → den < 2 ^ 127 → f ≡ pos (den / m) → to_z w128 (of_z w128 f) ≡ pos (den / m)
 factor_passed den m f below is =
     let small = div-le_self den m in
-    let within : InWidth (pos (den / m)) = (omega (arith, ints), omega (arith, ints)) in
-    through_bits f (subst InWidth (sym is) within) ∙ is
-
--- a part after it was stored
-pub part_passed : (w z : ℤ) → InWidth z → w ≡ z → to_z w128 (of_z w128 w) ≡ z
-part_passed w z within is = through_bits w (subst InWidth (sym is) within) ∙ is
+    den_passed f (den / m) (omega arith) is
 
 along : (f w z : ℤ) (k : ℕ) → f ≡ pos k → w ≡ z → f *ℤ w ≡ pos k *ℤ z
 along f w z k same_f same_w = ap (λ n. n *ℤ w) same_f ∙ ap (λ n. pos k *ℤ n) same_w

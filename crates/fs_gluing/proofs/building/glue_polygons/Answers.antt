@@ -9,9 +9,9 @@ use Rattle.fs_gluing.specs.Polygons.{all_sides}
 use Rattle.fs_gluing.specs.FirstFault.{stop_of, side_glued}
 use Rattle.fs_gluing.specs.TestsInOrder.{IsFirstStop}
 use Rattle.fs_gluing.specs.Gluing.{corner_cmp}
-use Rattle.fs_gluing.proofs.Base.TestsInOrder.{at_exit}
-use Rattle.fs_gluing.proofs.Base.Items.{item_read}
-use Rattle.fs_gluing.proofs.Glue.GluedSides.{GluesPolygonsUpTo, rows_more, rows_fail}
+use Rattle.fs_lists.proofs.Results.{at_exit}
+use Rattle.fs_lists.proofs.Items.{item_read}
+use Rattle.fs_gluing.proofs.Gluing.GluedSides.{GluesPolygonsUpTo, rows_more, rows_fail}
 use Rattle.fs_gluing.proofs.building.glue_polygons.Goals as goal
 
 pub returns-in_err-glue_polygon-clause-failed : goal.returns-in_err-glue_polygon-clause-failed

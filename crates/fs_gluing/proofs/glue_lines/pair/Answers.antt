@@ -1,5 +1,5 @@
 -- The two sides on a line become partners.
-use Rattle.fs_gluing.proofs.Glue.Partners.{partners_more}
+use Rattle.fs_gluing.proofs.Gluing.Partners.{partners_more}
 use Rattle.fs_gluing.proofs.glue_lines.pair.Goals as goal
 
 pub returns : goal.returns

@@ -17,5 +17,4 @@ pub returns-in-Err-clause-failed : goal.returns-in-Err-clause-failed
 returns-in-Err-clause-failed c = λ sides.
     let stopped = sym c.cross.ensures ∙ c.in-Err.is in
     corner_overflows c.args.field.d sides c.args.corner.side (record { before = c.args.before; after = c.args.after })
-    c.args.corner.polygon c.from.result c.from-in-Err.result c.in-Err.field-0.0 c.from.ensures c.from-in-Err.ensures
-    stopped
+    c.args.corner.polygon c.in-Err.field-0.0 c.convexity.result c.convexity.ensures stopped

@@ -2,8 +2,8 @@
 use Rattle.std.specs.Result.{IfErr}
 use Rattle.fs_gluing.specs.Scaling.{PassesScale, common_tests, all_numbered}
 use Rattle.fs_gluing.specs.TestsInOrder.{IsFirstStop}
-use Rattle.fs_gluing.proofs.Base.TestsInOrder.{at_exit}
-use Rattle.fs_gluing.proofs.Base.Items.{item_read}
+use Rattle.fs_lists.proofs.Results.{at_exit}
+use Rattle.fs_lists.proofs.Items.{item_read}
 use Rattle.fs_gluing.proofs.Scale.ScalingInTurn.{scale_stop, polygons_more, polygons_fail}
 use Rattle.fs_gluing.proofs.scaling.common_den.Goals as goal
 

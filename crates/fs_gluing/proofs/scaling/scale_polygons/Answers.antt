@@ -5,8 +5,8 @@ use Rattle.fs_gluing.specs.declared.faults.BuildStop.{BuildStop}
 use Rattle.fs_gluing.specs.declared.faults.BuildStop.TheVariants.{NoMemory}
 use Rattle.fs_gluing.specs.Scaling.{PassesScale, part_tests, all_numbered}
 use Rattle.fs_gluing.specs.TestsInOrder.{IsFirstStop}
-use Rattle.fs_gluing.proofs.Base.TestsInOrder.{at_exit}
-use Rattle.fs_gluing.proofs.Base.Items.{item_read}
+use Rattle.fs_lists.proofs.Results.{at_exit}
+use Rattle.fs_lists.proofs.Items.{item_read}
 use Rattle.fs_gluing.proofs.Scale.ScalingInTurn.{scale_stop, polygons_scaled_more, polygons_scaled_fail}
 use Rattle.fs_gluing.proofs.scaling.scale_polygons.Goals as goal
 

@@ -1,5 +1,6 @@
 -- The corners of the vertex are marked one after another.
 use Rattle.std.proofs.Common.{◌≤◌, inl, inr, refl, arith, sym, ◌∙◌}
+use Rattle.fs_gluing.specs.Limits.{most_sides}
 use Rattle.fs_stratum.proofs.VertexMarks.{vertex_marks_none, vertex_marks_more, has_corner, count_few, unmarked_falls, vertex_marked, vertex_counted, held_read, raised_read, lowered_read}
 use Rattle.fs_stratum.proofs.cones.mark_vertex.Goals as goal
 use Rattle.fs_stratum.proofs.cones.mark_vertex.Goals.{else-not-is_raised-via-then-not-is_raised+else-is_raised, else-not-is_raised-via-else-not-is_raised}
@@ -25,7 +26,7 @@ side-requires c = has_corner c.args.surface.now c.args.first c.args.marks.now c.
 
 pub overflow_add-k : goal.overflow_add-k
 overflow_add-k c =
-    let l : c.loop-field.k ≤ 1024 = count_few c.args.surface.now c.args.first c.args.marks.now c.requires.fresh c.field-field.ensures.surface c.requires.there c.loop-field.marks c.loop-field.corner c.loop-field.k c.loop-field.invariant in
+    let l : c.loop-field.k ≤ most_sides = count_few c.args.surface.now c.args.first c.args.marks.now c.requires.fresh c.field-field.ensures.surface c.requires.there c.loop-field.marks c.loop-field.corner c.loop-field.k c.loop-field.invariant in
     omega arith
 
 pub loop-field-smaller-then-is_raised : goal.loop-field-smaller-then-is_raised

@@ -1,5 +1,5 @@
 -- The triangles of a polygon are made from the positions of its corners.
-use Rattle.fs_gluing.proofs.Surface.AreaSums.{few_positions, polygon_added}
+use Rattle.fs_gluing.proofs.SurfaceCalls.AreaSums.{few_positions, polygon_added}
 use Rattle.fs_gluing.proofs.surfaces.Surface.add_polygon.Goals as goal
 
 pub add_triangles-requires : goal.add_triangles-requires

@@ -1,8 +1,8 @@
 -- The stored positions are those of the corners.
 use Rattle.std.proofs.Common.{subst}
 use Rattle.fs_gluing.specs.Surface.{IsSurface}
-use Rattle.fs_gluing.proofs.Surface.NextCorner.{in_polygon}
-use Rattle.fs_gluing.proofs.Surface.Positions.{row_read, row_long, is_position, position_is, first_position, next_position}
+use Rattle.fs_gluing.proofs.SurfaceCalls.NextCorner.{in_polygon}
+use Rattle.fs_gluing.proofs.SurfaceCalls.Positions.{row_read, row_long, is_position, position_is, first_position, next_position}
 use Rattle.fs_gluing.proofs.surfaces.Surface.place.Goals as goal
 
 pub bounds-positions-c : goal.bounds-positions-c

@@ -1,5 +1,5 @@
 -- The stored positions are those of the corners.
-use Rattle.fs_gluing.proofs.Surface.Positions.{row_read, row_positions}
+use Rattle.fs_gluing.proofs.SurfaceCalls.Positions.{row_read, row_positions}
 use Rattle.fs_gluing.proofs.surfaces.Surface.positions.Goals as goal
 
 pub returns : goal.returns

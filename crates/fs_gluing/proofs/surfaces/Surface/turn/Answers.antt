@@ -1,7 +1,7 @@
 -- The step to the next corner is a permutation of the corners, and the next corner is of the same vertex.
 use Rattle.std.proofs.Common.{subst}
 use Rattle.fs_gluing.specs.Surface.{GluedPolygons}
-use Rattle.fs_gluing.proofs.Surface.NextCorner.{IsGluing, is_next_corner, has_next_corner, next_corner_one_to_one, next_corner_onto, next_corner_one_point}
+use Rattle.fs_gluing.proofs.SurfaceCalls.NextCorner.{IsGluing, is_next_corner, has_next_corner, next_corner_one_to_one, next_corner_onto, next_corner_one_point}
 use Rattle.fs_gluing.proofs.surfaces.Surface.turn.Goals as goal
 
 pub returns : goal.returns

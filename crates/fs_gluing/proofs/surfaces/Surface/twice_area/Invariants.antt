@@ -1,5 +1,5 @@
 -- The polygons before i are in the sum.
-use Rattle.fs_gluing.proofs.Surface.AreaSums.{SumsPolygonsUpTo}
+use Rattle.fs_gluing.proofs.SurfaceCalls.AreaSums.{SumsPolygonsUpTo}
 use Rattle.fs_gluing.proofs.surfaces.Surface.twice_area.Given as goal
 
 abbrev pub invariant-loop-i : goal.invariant-loop-i

@@ -4,6 +4,7 @@ use Rattle.std.proofs.lemmas.Bool.Decides.{nat_tests}
 use Rattle.std.proofs.lemmas.Option.{slice_get_within}
 use Rattle.std.specs.Option.{IsSome, IfSome, option_and_then}
 use Rattle.std.specs.List.{slice_get}
+use Rattle.fs_lists.proofs.Items.{HasValue, value_of, some_of_inside}
 use Rattle.fs_plane.specs.declared.corners.Corner.{Corner}
 use Rattle.fs_plane.specs.Vector.{vector_neg}
 use Rattle.fs_gluing.specs.declared.surfaces.Side.{Side}
@@ -55,15 +56,10 @@ in_polygon_some polygons c (Some x) e h = in_polygon_at polygons c x e
 pub in_polygon : {X : Type 0} (polygons : List (List X)) (c : Corner) → HasSide polygons c → IsInPolygon polygons c
 in_polygon polygons c h = in_polygon_some polygons c (at_side polygons c) refl h
 
-some_at : {X : Type 0} (polygon : List X) (k : ℕ) → k < length polygon → IsSome (slice_get polygon k)
-some_at [] k l = absurd (omega arith)
-some_at (x ∷ polygon) zero l = refl
-some_at (x ∷ polygon) (suc k) l = some_at polygon k (omega arith)
-
 -- each side of the polygon of a corner that exists exists
 has_other : {X : Type 0} (polygons : List (List X)) (c e : Corner) (s : IsInPolygon polygons c) → e.polygon ≡ c.polygon → e.side < length s.polygon → HasSide polygons e
 has_other polygons c e s same l =
-    subst (λ o. IsSome (option_and_then (λ polygon. slice_get polygon e.side) o)) (sym (ap (slice_get polygons) same ∙ s.is)) (some_at s.polygon e.side l)
+    subst (λ o. IsSome (option_and_then (λ polygon. slice_get polygon e.side) o)) (sym (ap (slice_get polygons) same ∙ s.is)) (some_of_inside s.polygon e.side l)
 
 count_is : {X : Type 0} (polygons : List (List X)) (c : Corner) (s : IsInPolygon polygons c) → side_count polygons c.polygon ≡ length s.polygon
 count_is polygons c s = ap length_or_0 s.is
@@ -99,16 +95,6 @@ IsGluing polygons = (c : Corner) (side : Side) → at_side polygons c ≡ Some s
 
 has_some : {X : Type 0} (polygons : List (List X)) (c : Corner) (x : X) → at_side polygons c ≡ Some x → HasSide polygons c
 has_some polygons c x e = subst IsSome (sym e) refl
-
--- the value of an option
-pub record Value {X : Type 0} (o : Option X) : Type 0 where
-  pub value : X
-  pub is : o ≡ Some value
-
--- an option that is some has a value
-pub value_of : {X : Type 0} (o : Option X) → IsSome o → Value o
-value_of None h = cc
-value_of (Some x) h = record { value = x; is = refl }
 
 -- the partner of the side before a corner is the next corner
 pub is_next_corner : (polygons : List (List Side)) (c b e : Corner) → HasSide polygons c → b ≡ side_before polygons c → IfSome (at_side polygons b) (λ side. e ≡ side.partner) → IsNextCorner polygons c e

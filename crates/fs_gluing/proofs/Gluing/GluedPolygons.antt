@@ -3,11 +3,11 @@ use Rattle.std.proofs.Common.{◌≡◌, ◌≢◌, inl, inr, ℕ, ◌+◌, ◌<
 use Rattle.std.proofs.lemmas.List.Sums.{sum_by-cons}
 use Rattle.std.specs.Option.{IsSome, option_map, option_and_then}
 use Rattle.std.specs.List.{AllByRecursion, slice_get}
+use Rattle.fs_gluing.specs.Limits.{most_polygons, most_sides}
 use Rattle.fs_quadratic.specs.Radicand.{IsRadicand}
-use Rattle.fs_quadratic.proofs.Firsts.{All-back, All-front}
+use Rattle.fs_lists.proofs.All.{All-suffix, All-prefix, All-of_map}
 use Rattle.fs_plane.specs.declared.corners.Corner.{Corner}
-use Rattle.fs_plane.specs.declared.vector.V2.{V2}
-use Rattle.fs_plane.specs.Vector.{vector_neg}
+use Rattle.fs_plane.specs.Vector.{vector_neg, PlaneVector}
 use Rattle.fs_gluing.specs.declared.shapes.Glue.{Glue}
 use Rattle.fs_gluing.specs.declared.surfaces.Side.{Side}
 use Rattle.fs_gluing.specs.Convex.{CornerSides, IsStrictlyConvex, corners_of}
@@ -17,34 +17,34 @@ use Rattle.fs_gluing.specs.Shape.{AreGlued}
 use Rattle.fs_gluing.specs.Surface.{side_vectors, IsPolygon, AreNeighbours, IsGlued, IsSurface}
 use Rattle.fs_gluing.specs.FirstFault.{polygon_closes, turning_number_one, PassesIn, polygon_tests, position_tests, corner_tests, of_polygon, Passes, PassesLine, line_tests, AreOpposite, Joins, tests_from, Test}
 use Rattle.fs_gluing.specs.Gluing.{ArePartners, IsPairOf, sides_between, glued_polygon, glued_polygons}
-use Rattle.fs_gluing.proofs.Surface.NextCorner.{value_of}
-use Rattle.fs_gluing.proofs.Glue.GlueLines.{lines_hold}
-use Rattle.fs_gluing.proofs.Glue.Partners.{partner_back, pair_other, pair_opposite}
-use Rattle.fs_gluing.proofs.Glue.GluedSides.{side_of}
+use Rattle.fs_lists.proofs.Items.{value_of, comes_from}
+use Rattle.fs_gluing.proofs.Gluing.GlueLines.{lines_hold}
+use Rattle.fs_gluing.proofs.Gluing.Partners.{partner_back, pair_other, pair_opposite}
+use Rattle.fs_gluing.proofs.Gluing.GluedSides.{side_of}
 
 -- ---- the glued polygons have the same vectors
 
-row_vectors : (p : Corner → Option Corner) (i j : ℕ) (polygon : List V2) → side_vectors (glued_polygon p i j polygon) ≡ polygon
+row_vectors : (p : Corner → Option Corner) (i j : ℕ) (polygon : List PlaneVector) → side_vectors (glued_polygon p i j polygon) ≡ polygon
 row_vectors p i j [] = refl
 row_vectors p i j (v ∷ polygon) = ap (λ vs. v ∷ vs) (row_vectors p i (j + 1) polygon)
 
 -- the glued polygons have the vectors of the polygons
-pub rows_vectors : (p : Corner → Option Corner) (i : ℕ) (polygons : List (List V2)) → map side_vectors (glued_polygons p i polygons) ≡ polygons
+pub rows_vectors : (p : Corner → Option Corner) (i : ℕ) (polygons : List (List PlaneVector)) → map side_vectors (glued_polygons p i polygons) ≡ polygons
 rows_vectors p i [] = refl
 rows_vectors p i (polygon ∷ polygons) =
     ap (λ row. row ∷ map side_vectors (glued_polygons p (i + 1) polygons)) (row_vectors p i 0 polygon)
     ∙ ap (λ rows. polygon ∷ rows) (rows_vectors p (i + 1) polygons)
 
-row_length : (p : Corner → Option Corner) (i j : ℕ) (polygon : List V2) → length (glued_polygon p i j polygon) ≡ length polygon
+row_length : (p : Corner → Option Corner) (i j : ℕ) (polygon : List PlaneVector) → length (glued_polygon p i j polygon) ≡ length polygon
 row_length p i j [] = refl
 row_length p i j (v ∷ polygon) = ap (λ n. suc n) (row_length p i (j + 1) polygon)
 
 -- there are as many glued polygons as polygons
-pub rows_length : (p : Corner → Option Corner) (i : ℕ) (polygons : List (List V2)) → length (glued_polygons p i polygons) ≡ length polygons
+pub rows_length : (p : Corner → Option Corner) (i : ℕ) (polygons : List (List PlaneVector)) → length (glued_polygons p i polygons) ≡ length polygons
 rows_length p i [] = refl
 rows_length p i (polygon ∷ polygons) = ap (λ n. suc n) (rows_length p (i + 1) polygons)
 
-rows_sum : (p : Corner → Option Corner) (i : ℕ) (polygons : List (List V2)) → sum_by length (glued_polygons p i polygons) ≡ sum_by length polygons
+rows_sum : (p : Corner → Option Corner) (i : ℕ) (polygons : List (List PlaneVector)) → sum_by length (glued_polygons p i polygons) ≡ sum_by length polygons
 rows_sum p i [] = refl
 rows_sum p i (polygon ∷ polygons) =
     sum_by-cons length (glued_polygon p i 0 polygon) (glued_polygons p (i + 1) polygons)
@@ -54,39 +54,34 @@ rows_sum p i (polygon ∷ polygons) =
 
 -- ---- the polygons are closed and convex
 
--- what holds of all items of a mapped list holds of all values of the map
-pub All-from_map : {X Y : Type 0} (f : X → Y) (P : Y → Type 0) (xs : List X) → AllByRecursion P (map f xs) → AllByRecursion (λ x. P (f x)) xs
-All-from_map f P [] a = tt
-All-from_map f P (x ∷ xs) a = (a.0, All-from_map f P xs a.1)
-
-corners_convex : (d : ℕ) (polygon : List V2) (j : ℕ) (corners : List CornerSides) → AllByRecursion (PassesIn d polygon) (corner_tests j corners) → AllByRecursion (IsStrictlyConvex d) corners
+corners_convex : (d : ℕ) (polygon : List PlaneVector) (j : ℕ) (corners : List CornerSides) → AllByRecursion (PassesIn d polygon) (corner_tests j corners) → AllByRecursion (IsStrictlyConvex d) corners
 corners_convex d polygon j [] a = tt
 corners_convex d polygon j (corner ∷ corners) a = (a.1.1.1.0, corners_convex d polygon (j + 1) corners a.1.1.1.1)
 
-is_polygon : (d : ℕ) (polygon : List V2) → AllByRecursion (PassesIn d polygon) (polygon_tests polygon) → IsPolygon d polygon
+is_polygon : (d : ℕ) (polygon : List PlaneVector) → AllByRecursion (PassesIn d polygon) (polygon_tests polygon) → IsPolygon d polygon
 is_polygon d polygon a =
-    let closing = All-back (PassesIn d polygon) (position_tests (length polygon)) (polygon_closes ∷ (corner_tests 0 (corners_of polygon) ++ turning_number_one ∷ [])) a.1 in
+    let closing = All-suffix (PassesIn d polygon) (position_tests (length polygon)) (polygon_closes ∷ (corner_tests 0 (corners_of polygon) ++ turning_number_one ∷ [])) a.1 in
     record {
       three = a.0;
       closed = closing.0;
-      convex = corners_convex d polygon 0 (corners_of polygon) (All-front (PassesIn d polygon) (corner_tests 0 (corners_of polygon)) (turning_number_one ∷ []) closing.1);
-      turning_number = (All-back (PassesIn d polygon) (corner_tests 0 (corners_of polygon)) (turning_number_one ∷ []) closing.1).0;
+      convex = corners_convex d polygon 0 (corners_of polygon) (All-prefix (PassesIn d polygon) (corner_tests 0 (corners_of polygon)) (turning_number_one ∷ []) closing.1);
+      turning_number = (All-suffix (PassesIn d polygon) (corner_tests 0 (corners_of polygon)) (turning_number_one ∷ []) closing.1).0;
     }
 
-rows_each : (d : ℕ) (all : List (List V2)) (glues : List Glue) (p : Corner → Option Corner) (i : ℕ) (polygons : List (List V2)) → AllByRecursion (Passes d all glues) (tests_from i polygons)
+rows_each : (d : ℕ) (all : List (List PlaneVector)) (glues : List Glue) (p : Corner → Option Corner) (i : ℕ) (polygons : List (List PlaneVector)) → AllByRecursion (Passes d all glues) (tests_from i polygons)
     → AllByRecursion (λ row. IsPolygon d (side_vectors row)) (glued_polygons p i polygons)
 rows_each d all glues p i [] a = tt
 rows_each d all glues p i (polygon ∷ polygons) a =
     let here : List Test = map (of_polygon i polygon) (polygon_tests polygon) in
     let later : List Test = tests_from (i + 1) polygons in (
       subst (IsPolygon d) (sym (row_vectors p i 0 polygon))
-          (is_polygon d polygon (All-from_map (of_polygon i polygon) (Passes d all glues) (polygon_tests polygon) (All-front (Passes d all glues) here later a))),
-      rows_each d all glues p (i + 1) polygons (All-back (Passes d all glues) here later a),
+          (is_polygon d polygon (All-of_map (of_polygon i polygon) (Passes d all glues) (polygon_tests polygon) (All-prefix (Passes d all glues) here later a))),
+      rows_each d all glues p (i + 1) polygons (All-suffix (Passes d all glues) here later a),
     )
 
 -- ---- the sides of the glued polygons
 
-slice_get_row : (p : Corner → Option Corner) (i j : ℕ) (polygon : List V2) (k : ℕ) → slice_get (glued_polygon p i j polygon) k ≡ option_map (side_of p (record { polygon = i; side = j + k })) (slice_get polygon k)
+slice_get_row : (p : Corner → Option Corner) (i j : ℕ) (polygon : List PlaneVector) (k : ℕ) → slice_get (glued_polygon p i j polygon) k ≡ option_map (side_of p (record { polygon = i; side = j + k })) (slice_get polygon k)
 slice_get_row p i j [] k = refl
 slice_get_row p i j (v ∷ polygon) zero =
     let same : j ≡ j + 0 = omega arith in
@@ -95,7 +90,7 @@ slice_get_row p i j (v ∷ polygon) (suc k) =
     let same : j + 1 + k ≡ j + suc k = omega arith in
     slice_get_row p i (j + 1) polygon k ∙ ap (λ n. option_map (side_of p (record { polygon = i; side = n })) (slice_get polygon k)) same
 
-slice_get_rows : (p : Corner → Option Corner) (i : ℕ) (polygons : List (List V2)) (k : ℕ) → slice_get (glued_polygons p i polygons) k ≡ option_map (glued_polygon p (i + k) 0) (slice_get polygons k)
+slice_get_rows : (p : Corner → Option Corner) (i : ℕ) (polygons : List (List PlaneVector)) (k : ℕ) → slice_get (glued_polygons p i polygons) k ≡ option_map (glued_polygon p (i + k) 0) (slice_get polygons k)
 slice_get_rows p i [] k = refl
 slice_get_rows p i (polygon ∷ polygons) zero =
     let same : i ≡ i + 0 = omega arith in
@@ -104,7 +99,7 @@ slice_get_rows p i (polygon ∷ polygons) (suc k) =
     let same : i + 1 + k ≡ i + suc k = omega arith in
     slice_get_rows p (i + 1) polygons k ∙ ap (λ n. option_map (glued_polygon p n 0) (slice_get polygons k)) same
 
-side_in_row : (p : Corner → Option Corner) (c : Corner) (o : Option (List V2)) → option_and_then (λ row. slice_get row c.side) (option_map (glued_polygon p (0 + c.polygon) 0) o)
+side_in_row : (p : Corner → Option Corner) (c : Corner) (o : Option (List PlaneVector)) → option_and_then (λ row. slice_get row c.side) (option_map (glued_polygon p (0 + c.polygon) 0) o)
     ≡ option_map (side_of p c) (option_and_then (λ polygon. slice_get polygon c.side) o)
 side_in_row p c None = refl
 side_in_row p c (Some polygon) =
@@ -114,22 +109,12 @@ side_in_row p c (Some polygon) =
     ∙ ap (λ n. option_map (side_of p (record { polygon = n; side = 0 + c.side })) (slice_get polygon c.side)) one
     ∙ ap (λ n. option_map (side_of p (record { polygon = c.polygon; side = n })) (slice_get polygon c.side)) two
 
-at_side_rows : (p : Corner → Option Corner) (polygons : List (List V2)) (c : Corner) → at_side (glued_polygons p 0 polygons) c ≡ option_map (side_of p c) (at_side polygons c)
+at_side_rows : (p : Corner → Option Corner) (polygons : List (List PlaneVector)) (c : Corner) → at_side (glued_polygons p 0 polygons) c ≡ option_map (side_of p c) (at_side polygons c)
 at_side_rows p polygons c = ap (option_and_then (λ row. slice_get row c.side)) (slice_get_rows p 0 polygons c.polygon) ∙ side_in_row p c (slice_get polygons c.polygon)
-
--- y is the value of f at the item of an option
-record IsImage {X Y : Type 0} (f : X → Y) (o : Option X) (y : Y) : Type 0 where
-  from : X
-  there : o ≡ Some from
-  is : f from ≡ y
-
-image_from : {X Y : Type 0} (f : X → Y) (o : Option X) (y : Y) → option_map f o ≡ Some y → IsImage f o y
-image_from f None y e = cc
-image_from f (Some x) y e = record { from = x; there = refl; is = let h : Some (f x) ≡ Some y = e in cc }
 
 -- ---- what holds of all sides holds of one that exists
 
-row_holds : (P : Corner → Type 0) (i j : ℕ) (polygon : List V2) (k : ℕ) (a : V2) → AllByRecursion P (sides_between i j (length polygon)) → slice_get polygon k ≡ Some a → P (record { polygon = i; side = j + k })
+row_holds : (P : Corner → Type 0) (i j : ℕ) (polygon : List PlaneVector) (k : ℕ) (a : PlaneVector) → AllByRecursion P (sides_between i j (length polygon)) → slice_get polygon k ≡ Some a → P (record { polygon = i; side = j + k })
 row_holds P i j [] k a h e = cc
 row_holds P i j (x ∷ polygon) zero a h e =
     let same : j ≡ j + 0 = omega arith in
@@ -139,32 +124,32 @@ row_holds P i j (x ∷ polygon) (suc k) a h e =
     subst (λ n. P (record { polygon = i; side = n })) same (row_holds P i (j + 1) polygon k a h.1 e)
 
 -- what holds of all sides of the polygons from i on holds of side j of polygon i + k
-pub rows_hold : (P : Corner → Type 0) (i : ℕ) (polygons : List (List V2)) (k j : ℕ) (a : V2) → AllByRecursion P (sides_from i polygons)
+pub rows_hold : (P : Corner → Type 0) (i : ℕ) (polygons : List (List PlaneVector)) (k j : ℕ) (a : PlaneVector) → AllByRecursion P (sides_from i polygons)
     → option_and_then (λ polygon. slice_get polygon j) (slice_get polygons k) ≡ Some a → P (record { polygon = i + k; side = j })
 rows_hold P i [] k j a h e = cc
 rows_hold P i (polygon ∷ polygons) zero j a h e =
     let one : i ≡ i + 0 = omega arith in
     let two : 0 + j ≡ j = omega arith in
     subst (λ n. P (record { polygon = n; side = j })) one (subst (λ n. P (record { polygon = i; side = n })) two
-    (row_holds P i 0 polygon j a (All-front P (sides_between i 0 (length polygon)) (sides_from (i + 1) polygons) h) e))
+    (row_holds P i 0 polygon j a (All-prefix P (sides_between i 0 (length polygon)) (sides_from (i + 1) polygons) h) e))
 rows_hold P i (polygon ∷ polygons) (suc k) j a h e =
     let same : i + 1 + k ≡ i + suc k = omega arith in
-    subst (λ n. P (record { polygon = n; side = j })) same (rows_hold P (i + 1) polygons k j a (All-back P (sides_between i 0 (length polygon)) (sides_from (i + 1) polygons) h) e)
+    subst (λ n. P (record { polygon = n; side = j })) same (rows_hold P (i + 1) polygons k j a (All-suffix P (sides_between i 0 (length polygon)) (sides_from (i + 1) polygons) h) e)
 
-has_partner : (p : Corner → Option Corner) (polygons : List (List V2)) (c : Corner) (a : V2) → AllByRecursion (λ c. IsSome (p c)) (all_sides polygons) → at_side polygons c ≡ Some a → IsSome (p c)
+has_partner : (p : Corner → Option Corner) (polygons : List (List PlaneVector)) (c : Corner) (a : PlaneVector) → AllByRecursion (λ c. IsSome (p c)) (all_sides polygons) → at_side polygons c ≡ Some a → IsSome (p c)
 has_partner p polygons c a h e =
     let same : 0 + c.polygon ≡ c.polygon = omega arith in
     subst (λ n. IsSome (p (record { polygon = n; side = c.side }))) same (rows_hold (λ c. IsSome (p c)) 0 polygons c.polygon c.side a h e)
 
 -- the polygons and the lines pass their tests, and p gives every side its partner
-pub record IsPaired (d : ℕ) (polygons : List (List V2)) (glues : List Glue) (p : Corner → Option Corner) : Type 0 where
+pub record IsPaired (d : ℕ) (polygons : List (List PlaneVector)) (glues : List Glue) (p : Corner → Option Corner) : Type 0 where
   pub each : AllByRecursion (Passes d polygons glues) (tests_from 0 polygons)
   pub lines : AllByRecursion (PassesLine polygons) (line_tests [] glues)
   pub partners : ArePartners glues p
   pub sides : AllByRecursion (λ c. IsSome (p c)) (all_sides polygons)
 
 -- where the lines are read from an equal list
-pub paired_by : (d : ℕ) (polygons : List (List V2)) (read glues : List Glue) (p : Corner → Option Corner) → read ≡ glues → ((gs : List Glue) → AllByRecursion (Passes d polygons gs) (tests_from 0 polygons))
+pub paired_by : (d : ℕ) (polygons : List (List PlaneVector)) (read glues : List Glue) (p : Corner → Option Corner) → read ≡ glues → ((gs : List Glue) → AllByRecursion (Passes d polygons gs) (tests_from 0 polygons))
     → AllByRecursion (PassesLine polygons) (line_tests [] read) → ArePartners read p → AllByRecursion (λ c. IsSome (p c)) (all_sides polygons) → IsPaired d polygons glues p
 paired_by d polygons read glues p same each lines partners sides = record {
   each = each glues;
@@ -173,11 +158,11 @@ paired_by d polygons read glues p same each lines partners sides = record {
   sides = sides;
 }
 
-some_opposite : (v : V2) (o : Option V2) → AreOpposite (Some v) o → o ≡ Some (vector_neg v)
+some_opposite : (v : PlaneVector) (o : Option PlaneVector) → AreOpposite (Some v) o → o ≡ Some (vector_neg v)
 some_opposite v None h = absurd h
 some_opposite v (Some w) h = ap (λ x. Some x) h
 
-module _ (d : ℕ) (polygons : List (List V2)) (glues : List Glue) (p : Corner → Option Corner) (h : IsPaired d polygons glues p) where
+module _ (d : ℕ) (polygons : List (List PlaneVector)) (glues : List Glue) (p : Corner → Option Corner) (h : IsPaired d polygons glues p) where
   -- the glued polygons
   abbrev rows : List (List Side)
   rows = glued_polygons p 0 polygons
@@ -192,11 +177,11 @@ module _ (d : ℕ) (polygons : List (List V2)) (glues : List Glue) (p : Corner �
   lines_opposite = lines_hold polygons (λ g. AreOpposite (at_side polygons g.one) (at_side polygons g.two)) (λ earlier g present single opposite. opposite) [] glues h.lines
 
   -- the partner's vector exists and is the opposite one
-  opposite_vector : (c e : Corner) (v : V2) → at_side polygons c ≡ Some v → p c ≡ Some e → at_side polygons e ≡ Some (vector_neg v)
+  opposite_vector : (c e : Corner) (v : PlaneVector) → at_side polygons c ≡ Some v → p c ≡ Some e → at_side polygons e ≡ Some (vector_neg v)
   opposite_vector c e v there is =
       some_opposite v _ (subst (λ o. AreOpposite o (at_side polygons e)) there (pair_opposite (λ k. at_side polygons k) glues c e lines_opposite (h.partners.only c e is)))
 
-  side_is_glued : (c e : Corner) (v : V2) → at_side polygons c ≡ Some v → p c ≡ Some e → IsGlued rows c (side_of p c v)
+  side_is_glued : (c e : Corner) (v : PlaneVector) → at_side polygons c ≡ Some v → p c ≡ Some e → IsGlued rows c (side_of p c v)
   side_is_glued c e v there is =
       let partner_is : unwrap_or (p c) c ≡ e = ap (λ o. unwrap_or o c) is in
       let back_is : unwrap_or (p e) e ≡ c = ap (λ o. unwrap_or o e) (partner_back glues p c e h.partners is) in
@@ -211,7 +196,7 @@ module _ (d : ℕ) (polygons : List (List V2)) (glues : List Glue) (p : Corner �
   -- every side of the glued polygons is glued
   pub rows_are_glued : (c : Corner) (side : Side) → at_side rows c ≡ Some side → IsGlued rows c side
   rows_are_glued c side there =
-      let a = image_from (side_of p c) (at_side polygons c) side (sym (at_side_rows p polygons c) ∙ there) in
+      let a = comes_from (side_of p c) (at_side polygons c) side (sym (at_side_rows p polygons c) ∙ there) in
       let e = value_of (p c) (has_partner p polygons c a.from h.sides a.there) in
       subst (IsGlued rows c) a.is (side_is_glued c e.value a.from a.there e.is)
 
@@ -220,7 +205,7 @@ module _ (d : ℕ) (polygons : List (List V2)) (glues : List Glue) (p : Corner �
   -- polygons that are neighbours by a side are joined by a line
   pub neighbours_joined : (i j : ℕ) → AreNeighbours rows i j → Joins glues i j
   neighbours_joined i j n =
-      let a = image_from (side_of p n.corner) (at_side polygons n.corner) n.side (sym (at_side_rows p polygons n.corner) ∙ n.there) in
+      let a = comes_from (side_of p n.corner) (at_side polygons n.corner) n.side (sym (at_side_rows p polygons n.corner) ∙ n.there) in
       let e = value_of (p n.corner) (has_partner p polygons n.corner a.from h.sides a.there) in
       let partner_is : e.value ≡ n.side.partner = sym (ap (λ o. unwrap_or o n.corner) e.is) ∙ ap (λ (s : Side). s.partner) a.is in
       record { one = n.corner; two = e.value; pair = h.partners.only n.corner e.value e.is; from = n.from; to = ap (λ (c : Corner). c.polygon) partner_is ∙ n.to }
@@ -272,14 +257,14 @@ module _ (d : ℕ) (polygons : List (List V2)) (glues : List Glue) (p : Corner �
   lines_are_glued = lines_glued_of glues lines_present h.partners.of_lines
 
   -- the glued polygons are a surface where they are connected
-  pub is_surface : (den : ℤ) → IsRadicand d → pos 0 <ℤ den → 0 < length polygons → length polygons ≤ 256 → sum_by length polygons ≤ 1024
+  pub is_surface : (den : ℤ) → IsRadicand d → pos 0 <ℤ den → 0 < length polygons → length polygons ≤ most_polygons → sum_by length polygons ≤ most_sides
       → ((k : ℕ) → k < length rows → IsReached (AreNeighbours rows) k) → IsSurface (record { d = d; den = den; polygons = rows })
   is_surface den radicand positive some few sides connected = record {
     radicand = radicand;
     den = positive;
     some_polygon = subst (λ n. 0 < n) (sym (rows_length p 0 polygons)) some;
-    polygons = subst (λ n. n ≤ 256) (sym (rows_length p 0 polygons)) few;
-    sides = subst (λ n. n ≤ 1024) (sym (rows_sum p 0 polygons)) sides;
+    polygons = subst (λ n. n ≤ most_polygons) (sym (rows_length p 0 polygons)) few;
+    sides = subst (λ n. n ≤ most_sides) (sym (rows_sum p 0 polygons)) sides;
     each = rows_each d polygons glues p 0 polygons h.each;
     glued = rows_are_glued;
     connected = connected;

@@ -4,8 +4,7 @@ use Rattle.std.proofs.lemmas.List.{take_more, drop_more}
 use Rattle.std.specs.List.{AllByRecursion}
 use Rattle.std.specs.Option.{IsSome, is_some}
 use Rattle.fs_plane.specs.declared.corners.Corner.{Corner}
-use Rattle.fs_plane.specs.declared.vector.V2.{V2}
-use Rattle.fs_plane.specs.Vector.{vector_neg}
+use Rattle.fs_plane.specs.Vector.{vector_neg, PlaneVector}
 use Rattle.fs_gluing.specs.declared.shapes.Glue.{Glue}
 use Rattle.fs_gluing.specs.declared.faults.BuildStop.{BuildStop}
 use Rattle.fs_gluing.specs.declared.faults.Fault.TheVariants as faults
@@ -15,8 +14,8 @@ use Rattle.fs_gluing.specs.FirstFault.{LineTest, sides_exist, glued_once, sides_
 use Rattle.fs_gluing.specs.Gluing.{ArePartners}
 use Rattle.fs_gluing.specs.TestsInOrder.{PassesBefore, IsFirstStop}
 use Rattle.fs_gluing.proofs.Base.TestsInOrder.{passes_before_more, passes_before_same, first_stop_of_rest, first_stop_of_head, first_stop_of_prefix}
-use Rattle.fs_gluing.proofs.Base.Items.{IsItem}
-use Rattle.fs_gluing.proofs.Glue.Partners.{listed_has_partner, listed_from_partner}
+use Rattle.fs_lists.proofs.Items.{IsItem, none_not_some, drop_item}
+use Rattle.fs_gluing.proofs.Gluing.Partners.{listed_has_partner, listed_from_partner}
 
 -- the stop of a test of a glue line
 abbrev pub line_stop : LineTest → BuildStop
@@ -28,7 +27,7 @@ no_glue = record { line = 0; one = record { polygon = 0; side = 0 }; two = recor
 
 -- ---- one line
 
-module _ (polygons : List (List V2)) (earlier : List Glue) (g : Glue) where
+module _ (polygons : List (List PlaneVector)) (earlier : List Glue) (g : Glue) where
   -- e is the stop of the first test of the line that fails
   abbrev Stops : BuildStop → Type 0
   Stops e = IsFirstStop (PassesLine polygons) (line_tests earlier (g ∷ [])) line_stop e
@@ -72,29 +71,29 @@ module _ (polygons : List (List V2)) (earlier : List Glue) (g : Glue) where
   two_glued_before p a there single = single.2 (listed_from_partner earlier p g.two a there)
 
 -- vectors that are read at both sides, the second being the opposite of the first
-pub are_opposite : (a b : Option V2) (v w : V2) → a ≡ Some v → b ≡ Some w → w ≡ vector_neg v → AreOpposite a b
+pub are_opposite : (a b : Option PlaneVector) (v w : PlaneVector) → a ≡ Some v → b ≡ Some w → w ≡ vector_neg v → AreOpposite a b
 are_opposite a b v w is_a is_b e = subst (λ o. AreOpposite o b) (sym is_a) (subst (AreOpposite (Some v)) (sym is_b) e)
 
 -- the converse: opposite sides have opposite vectors
-pub vectors_opposite : (a b : Option V2) (v w : V2) → a ≡ Some v → b ≡ Some w → AreOpposite a b → w ≡ vector_neg v
-vectors_opposite a b v w is_a is_b h = let P : Option V2 → Type 0 = AreOpposite (Some v) in subst P is_b (subst (λ o. AreOpposite o b) is_a h)
+pub vectors_opposite : (a b : Option PlaneVector) (v w : PlaneVector) → a ≡ Some v → b ≡ Some w → AreOpposite a b → w ≡ vector_neg v
+vectors_opposite a b v w is_a is_b h = let P : Option PlaneVector → Type 0 = AreOpposite (Some v) in subst P is_b (subst (λ o. AreOpposite o b) is_a h)
 
 -- ---- the lines in turn
 
 -- the lines before line i pass, and p gives the partners from them
-pub record PassesLinesUpTo (polygons : List (List V2)) (glues : List Glue) (i : ℕ) (p : Corner → Option Corner) : Type 0 where
+pub record PassesLinesUpTo (polygons : List (List PlaneVector)) (glues : List Glue) (i : ℕ) (p : Corner → Option Corner) : Type 0 where
   pub passed : PassesBefore (PassesLine polygons) (line_tests [] glues) (line_tests (take i glues) (drop i glues))
   pub partners : ArePartners (take i glues) p
 
 next_tests : (glues : List Glue) (i : ℕ) (g : Glue) → IsItem glues i g
     → line_tests (take i glues) (drop i glues) ≡ line_tests (take i glues) (g ∷ []) ++ line_tests (take (i + 1) glues) (drop (i + 1) glues)
 next_tests glues i g item =
-    let rest : drop i glues ≡ g ∷ drop (i + 1) glues = drop_more glues i g item.inside ∙ ap (λ h. h ∷ drop (i + 1) glues) (sym item.is) in
+    let rest : drop i glues ≡ g ∷ drop (i + 1) glues = drop_item glues i g item in
     let prefix : take i glues ++ g ∷ [] ≡ take (i + 1) glues = ap (λ h. take i glues ++ h ∷ []) item.is ∙ sym (take_more glues i g item.inside) in
     ap (line_tests (take i glues)) rest ∙ ap (λ (gs : List Glue). line_tests (take i glues) (g ∷ []) ++ line_tests gs (drop (i + 1) glues)) prefix
 
 -- one more line passes
-pub lines_more : (polygons : List (List V2)) (glues : List Glue) (i : ℕ) (g : Glue) (p q : Corner → Option Corner) → IsItem glues i g → PassesLinesUpTo polygons glues i p
+pub lines_more : (polygons : List (List PlaneVector)) (glues : List Glue) (i : ℕ) (g : Glue) (p q : Corner → Option Corner) → IsItem glues i g → PassesLinesUpTo polygons glues i p
     → AllByRecursion (PassesLine polygons) (line_tests (take i glues) (g ∷ [])) → ArePartners (take i glues ++ g ∷ []) q → PassesLinesUpTo polygons glues (i + 1) q
 lines_more polygons glues i g p q item l a partners = record {
   passed = passes_before_more _ _ (line_tests (take i glues) (g ∷ [])) _ (passes_before_same _ _ _ _ (next_tests glues i g item) l.passed) a;
@@ -102,7 +101,7 @@ lines_more polygons glues i g p q item l a partners = record {
 }
 
 -- the next line fails, and its stop is the first of all lines
-pub line_fails : (polygons : List (List V2)) (glues : List Glue) (i : ℕ) (g : Glue) (p : Corner → Option Corner) (e : BuildStop) → IsItem glues i g → PassesLinesUpTo polygons glues i p
+pub line_fails : (polygons : List (List PlaneVector)) (glues : List Glue) (i : ℕ) (g : Glue) (p : Corner → Option Corner) (e : BuildStop) → IsItem glues i g → PassesLinesUpTo polygons glues i p
     → IsFirstStop (PassesLine polygons) (line_tests (take i glues) (g ∷ [])) line_stop e → IsFirstStop (PassesLine polygons) (line_tests [] glues) line_stop e
 line_fails polygons glues i g p e item l a =
     first_stop_of_rest _ _ _ _ _ (passes_before_same _ _ _ _ (next_tests glues i g item) l.passed) (first_stop_of_prefix _ _ _ _ _ a)
@@ -110,7 +109,7 @@ line_fails polygons glues i g p e item l a =
 -- ---- what holds of all lines
 
 -- what follows from the three tests of a line holds of all lines that pass
-pub lines_hold : (polygons : List (List V2)) (P : Glue → Type 0) → ((earlier : List Glue) (g : Glue) → PassesLine polygons (sides_exist g) → PassesLine polygons (glued_once earlier g) → PassesLine polygons (sides_opposite g) → P g)
+pub lines_hold : (polygons : List (List PlaneVector)) (P : Glue → Type 0) → ((earlier : List Glue) (g : Glue) → PassesLine polygons (sides_exist g) → PassesLine polygons (glued_once earlier g) → PassesLine polygons (sides_opposite g) → P g)
     → (earlier glues : List Glue) → AllByRecursion (PassesLine polygons) (line_tests earlier glues) → AllByRecursion P glues
 lines_hold polygons P from earlier [] a = tt
 lines_hold polygons P from earlier (g ∷ glues) a = (from earlier g a.0 a.1.0 a.1.1.0, lines_hold polygons P from (earlier ++ g ∷ []) glues a.1.1.1)
@@ -118,22 +117,13 @@ lines_hold polygons P from earlier (g ∷ glues) a = (from earlier g a.0 a.1.0 a
 -- ---- sides that exist, and sides that don't
 
 -- sides whose vectors are read exist
-pub sides_exist_by : (polygons : List (List V2)) (g : Glue) (v w : V2) → at_side polygons g.one ≡ Some v → at_side polygons g.two ≡ Some w → HasSide polygons g.one × HasSide polygons g.two
+pub sides_exist_by : (polygons : List (List PlaneVector)) (g : Glue) (v w : PlaneVector) → at_side polygons g.one ≡ Some v → at_side polygons g.two ≡ Some w → HasSide polygons g.one × HasSide polygons g.two
 sides_exist_by polygons g v w is_one is_two = (subst IsSome (sym is_one) refl, subst IsSome (sym is_two) refl)
 
-none_not_some : {X : Type 0} (o : Option X) → o ≡ None → ¬ IsSome o
-none_not_some None e h = cc
-none_not_some (Some x) e h = cc
-
 -- the first side has no vector
-pub absent_one : (polygons : List (List V2)) (g : Glue) → at_side polygons g.one ≡ None → ¬ (HasSide polygons g.one × HasSide polygons g.two)
+pub absent_one : (polygons : List (List PlaneVector)) (g : Glue) → at_side polygons g.one ≡ None → ¬ (HasSide polygons g.one × HasSide polygons g.two)
 absent_one polygons g e h = none_not_some _ e h.0
 
 -- the second side has no vector
-pub absent_two : (polygons : List (List V2)) (g : Glue) → at_side polygons g.two ≡ None → ¬ (HasSide polygons g.one × HasSide polygons g.two)
+pub absent_two : (polygons : List (List PlaneVector)) (g : Glue) → at_side polygons g.two ≡ None → ¬ (HasSide polygons g.one × HasSide polygons g.two)
 absent_two polygons g e h = none_not_some _ e h.1
-
--- where `is_some` is false there is no value
-pub not_some : {X : Type 0} (o : Option X) → is_some o ≡ false → ¬ IsSome o
-not_some None e h = cc
-not_some (Some x) e h = cc

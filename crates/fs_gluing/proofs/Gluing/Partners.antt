@@ -10,15 +10,13 @@ use Rattle.std.specs.Ordering.{is_eq}
 use Rattle.std.specs.BTreeMap.{is_at}
 use Rattle.std.specs.Option.{IsSome}
 use Rattle.std.specs.List.{AllByRecursion, Contains}
-use Rattle.fs_quadratic.proofs.Firsts.{All-append}
+use Rattle.fs_lists.proofs.All.{All-append, All-weaker}
 use Rattle.fs_plane.specs.declared.corners.Corner.{Corner}
-use Rattle.fs_plane.specs.declared.vector.V2.{V2}
-use Rattle.fs_plane.specs.Vector.{vector_neg}
+use Rattle.fs_plane.specs.Vector.{vector_neg, PlaneVector}
 use Rattle.fs_gluing.specs.declared.shapes.Glue.{Glue}
 use Rattle.fs_gluing.specs.Shape.{glued_sides}
 use Rattle.fs_gluing.specs.FirstFault.{AreOpposite, PassesLine, glued_once}
 use Rattle.fs_gluing.specs.Gluing.{corner_cmp, IsPairOf, ArePartners}
-use Rattle.fs_gluing.proofs.Base.TestsInOrder.{All-weaker}
 use Rattle.fs_gluing.proofs.Base.Equality.{vector_neg-vector_neg}
 
 -- corners that compare as equal are equal
@@ -73,7 +71,7 @@ partners_push done g p q r a free_one free_two apart s t =
     let keeps : (c e : Corner) → p c ≡ Some e → r c ≡ Some e = λ c e is. put_keeps q r g.two g.one t still_free c e (put_keeps p q g.one g.two s free_one c e is) in
     record {
       of_lines = All-append _ done (g ∷ [])
-          (All-weaker (λ h. (p h.one ≡ Some h.two) × (p h.two ≡ Some h.one)) (λ h. (r h.one ≡ Some h.two) × (r h.two ≡ Some h.one)) (λ h b. (keeps _ _ b.0, keeps _ _ b.1)) done a.of_lines)
+          (All-weaker done (λ h b. (keeps _ _ b.0, keeps _ _ b.1)) a.of_lines)
           ((put_keeps q r g.two g.one t still_free _ _ (put_here p q g.one g.two s), put_here q r g.two g.one t), tt);
       only = λ c e is. elim (put_some q r g.two g.one t c e is) [
         | inl h ↦ pair_of_suffix done (g ∷ []) c e (inr (inl h))
@@ -103,16 +101,16 @@ pair_other (g ∷ glues) c e d h = elim h [
   | inr r ↦ elim r [ inl k ↦ λ same. d.0 (k.1 ∙ same ∙ sym k.0) | inr t ↦ pair_other glues c e d.1 t ]
 ]
 
-opposite_back : (a b : Option V2) → AreOpposite a b → AreOpposite b a
+opposite_back : (a b : Option PlaneVector) → AreOpposite a b → AreOpposite b a
 opposite_back None b h = absurd h
 opposite_back (Some v) None h = absurd h
 opposite_back (Some v) (Some w) h = sym (ap vector_neg h ∙ vector_neg-vector_neg v)
 
-opposite_at : (vector : Corner → Option V2) (a b c e : Corner) → a ≡ c → b ≡ e → AreOpposite (vector a) (vector b) → AreOpposite (vector c) (vector e)
+opposite_at : (vector : Corner → Option PlaneVector) (a b c e : Corner) → a ≡ c → b ≡ e → AreOpposite (vector a) (vector b) → AreOpposite (vector c) (vector e)
 opposite_at vector a b c e at_c at_e h = subst (λ x. AreOpposite (vector x) (vector e)) at_c (subst (λ x. AreOpposite (vector a) (vector x)) at_e h)
 
 -- sides that are glued to each other have opposite vectors
-pub pair_opposite : (vector : Corner → Option V2) (glues : List Glue) (c e : Corner) → AllByRecursion (λ g. AreOpposite (vector g.one) (vector g.two)) glues → IsPairOf glues c e → AreOpposite (vector c) (vector e)
+pub pair_opposite : (vector : Corner → Option PlaneVector) (glues : List Glue) (c e : Corner) → AllByRecursion (λ g. AreOpposite (vector g.one) (vector g.two)) glues → IsPairOf glues c e → AreOpposite (vector c) (vector e)
 pair_opposite vector [] c e a h = absurd h
 pair_opposite vector (g ∷ glues) c e a h = elim h [
   | inl k ↦ opposite_at vector g.one g.two c e k.0 k.1 a.0
@@ -138,7 +136,7 @@ unlisted_by glues p c None is a un = is
 unlisted_by glues p c (Some e) is a un = absurd (un (pair_listed glues c e (a.only c e is)))
 
 -- the partners after one more line
-pub partners_more : (polygons : List (List V2)) (earlier : List Glue) (g : Glue) (p q r : Corner → Option Corner) → ArePartners earlier p → PassesLine polygons (glued_once earlier g)
+pub partners_more : (polygons : List (List PlaneVector)) (earlier : List Glue) (g : Glue) (p q r : Corner → Option Corner) → ArePartners earlier p → PassesLine polygons (glued_once earlier g)
     → Puts p q g.one g.two → Puts q r g.two g.one → ArePartners (earlier ++ g ∷ []) r
 partners_more polygons earlier g p q r a single s t =
     partners_push earlier g p q r a (unlisted_by earlier p g.one (p g.one) refl a single.1) (unlisted_by earlier p g.two (p g.two) refl a single.2) single.0 s t

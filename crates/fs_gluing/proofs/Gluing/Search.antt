@@ -8,6 +8,7 @@ use Rattle.std.proofs.lemmas.Option.{slice_get-map, slice_get_within, get_or_fro
 use Rattle.std.specs.Bool.{IsTrue}
 use Rattle.std.specs.Option.{option_map, option_and_then}
 use Rattle.std.specs.List.{AllByRecursion, Contains, slice_get, range_with_len}
+use Rattle.fs_lists.proofs.All.{All-of_each}
 use Rattle.fs_plane.specs.declared.corners.Corner.{Corner}
 use Rattle.fs_gluing.specs.declared.surfaces.Side.{Side}
 use Rattle.fs_gluing.specs.declared.faults.Fault.TheVariants.{Apart}
@@ -20,8 +21,8 @@ use Rattle.fs_gluing.specs.Polygons.{at_side}
 use Rattle.fs_gluing.specs.Reached.{IsReached}
 use Rattle.fs_gluing.specs.Surface.{AreNeighbours, IsGlued}
 use Rattle.fs_gluing.proofs.Base.TestsInOrder.{passes_before_none, passes_before_more, passes_before_same, first_stop_of_rest, first_stop_of_head}
-use Rattle.fs_gluing.proofs.Base.Items.{range_more}
-use Rattle.fs_gluing.proofs.Surface.NextCorner.{in_polygon_at}
+use Rattle.fs_lists.proofs.Ranges.{range_more}
+use Rattle.fs_gluing.proofs.SurfaceCalls.NextCorner.{in_polygon_at}
 
 bool_cases : (b : Bool) → IsTrue b ⊎ (¬ IsTrue b)
 bool_cases true = inl refl
@@ -246,15 +247,11 @@ search_all polygons marks waiting rest n is rest_is none s =
       );
     }
 
-all_from_each : {X : Type 0} (P : X → Type 0) (xs : List X) → ((j : ℕ) (x : X) → slice_get xs j ≡ Some x → P x) → AllByRecursion P xs
-all_from_each P [] h = tt
-all_from_each P (x ∷ xs) h = (h 0 x refl, all_from_each P xs (λ j. h (suc j)))
-
 -- the partners of a polygon's sides are in polygons that exist
 pub partners_inside : (polygons : List (List Side)) (k : ℕ) (polygon : List Side) (n : ℕ) → slice_get polygons k ≡ Some polygon → n ≡ length polygons
     → ((c : Corner) (side : Side) → at_side polygons c ≡ Some side → IsGlued polygons c side) → AllByRecursion (λ side. side.partner.polygon < n) polygon
 partners_inside polygons k polygon n there is glued =
-    all_from_each (λ side. side.partner.polygon < n) polygon (λ j side at.
+    All-of_each (λ side. side.partner.polygon < n) polygon (λ j side at.
     let c : Corner = record { polygon = k; side = j } in
     let back = (glued c side (ap (option_and_then (λ (p : List Side). slice_get p j)) there ∙ at)).back in
     let s = in_polygon_at polygons side.partner _ back in

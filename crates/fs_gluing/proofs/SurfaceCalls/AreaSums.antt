@@ -6,6 +6,8 @@ use Rattle.std.specs.Option.{IfSome, option_map}
 use Rattle.std.specs.Bool.{Decides}
 use Rattle.std.specs.Result.{IfOk}
 use Rattle.std.specs.List.{slice_get}
+use Rattle.fs_plane.specs.declared.corners.Corner.{Corner}
+use Rattle.fs_gluing.specs.Limits.{most_sides}
 use Rattle.fs_ring.specs.Operations.{Operations}
 use Rattle.fs_ring.specs.CommutativeRing.{IsCommutativeRing}
 use Rattle.fs_ring.specs.Vector as plane
@@ -19,8 +21,7 @@ use Rattle.fs_quadratic.proofs.WidthTests.{Decides-is_fitting}
 use Rattle.fs_plane.specs.declared.sites.Place.{Place}
 use Rattle.fs_plane.specs.declared.sites.Site.{Site}
 use Rattle.fs_plane.specs.declared.sites.Site.TheVariants as sites
-use Rattle.fs_plane.specs.declared.vector.V2.{V2}
-use Rattle.fs_plane.specs.Vector.{vector_of, vector_zero, cross}
+use Rattle.fs_plane.specs.Vector.{vector_zero, cross, PlaneVector}
 use Rattle.fs_plane.specs.Checked.{◌>>=◌, checked_sum, step}
 use Rattle.fs_plane.specs.Formulas.{cross_after}
 use Rattle.fs_plane.proofs.FormulaLaws.{cross_value}
@@ -28,9 +29,10 @@ use Rattle.fs_gluing.specs.declared.surfaces.Side.{Side}
 use Rattle.fs_gluing.specs.Area.{Triangle, triangles_from, triangles_of, all_triangles, triangles, twice_triangle, twice_areas, twice_area, add_triangle, continued, sum_after}
 use Rattle.fs_gluing.specs.Positions.{positions_from}
 use Rattle.fs_gluing.specs.Surface.{GluedPolygons, IsSurface, side_vectors}
-use Rattle.fs_gluing.proofs.Polygon.PolygonsInTurn.{each_short}
-use Rattle.fs_gluing.proofs.Base.Items.{IsItem}
-use Rattle.fs_gluing.proofs.Surface.Positions.{all_at, length-positions_from}
+use Rattle.fs_lists.proofs.Sums.{each_length}
+use Rattle.fs_lists.proofs.Items.{IsItem, drop_item, item_inside, value_holds}
+use Rattle.fs_gluing.proofs.SurfaceCalls.Positions.{length-positions_from}
+use Rattle.fs_lists.proofs.All.{All-slice_get}
 
 -- ---- the sum over two lists of triangles
 
@@ -64,44 +66,40 @@ stops_by t true P value decides n = absurd (n (decides.0 refl))
 stops_by t false P value decides n = refl
 
 -- the sum overflows at place 4
-pub triangle_stops : (d : ℕ) (sum part : Quadratic) (t : Triangle) (polygon corner : ℕ) → polygon ≡ t.polygon → corner ≡ t.corner
-    → Ok part ≡ cross_after 0 d t.one t.two → ¬ Fits (add sum part) → Err (sites.Area polygon corner 4) ≡ sum_after d sum (t ∷ [])
-triangle_stops d sum part t polygon corner same also crossed n =
-    ap (λ i. Err (sites.Area i corner 4)) same
-    ∙ ap (λ j. Err (sites.Area t.polygon j 4)) also
+pub triangle_stops : (d : ℕ) (sum part : Quadratic) (t : Triangle) (site : Site) → site ≡ sites.Area t.polygon t.corner 4
+    → Ok part ≡ cross_after 0 d t.one t.two → ¬ Fits (add sum part) → Err site ≡ sum_after d sum (t ∷ [])
+triangle_stops d sum part t site is crossed n =
+    ap (λ s. Err s) is
     ∙ stops_by t (is_fitting (add sum part)) (Fits (add sum part)) (add sum part) (Decides-is_fitting (add sum part)) n
     ∙ ap (λ c. continued t (c >>= (λ x. checked_sum 4 sum x)) (λ next. Ok next)) crossed
 
 -- ---- the triangles of one polygon
 
 -- the triangles from corner k on
-abbrev pub triangles_at : ℕ → ℕ → List V2 → List Triangle
+abbrev pub triangles_at : ℕ → ℕ → List PlaneVector → List Triangle
 triangles_at i k positions = triangles_from i k (drop k positions)
 
 -- the triangle of corner k and the next one, by their positions
-abbrev pub triangle : ℕ → ℕ → V2 → V2 → Triangle
+abbrev pub triangle : ℕ → ℕ → PlaneVector → PlaneVector → Triangle
 triangle i k one two = record { polygon = i; corner = k; one = one; two = two }
 
-next_item : {X : Type 0} (xs : List X) (k : ℕ) (x : X) → IsItem xs k x → drop k xs ≡ x ∷ drop (k + 1) xs
-next_item xs k x item = drop_more xs k x item.inside ∙ ap (λ y. y ∷ drop (k + 1) xs) (sym item.is)
-
-triangles_at-more : (i k : ℕ) (positions : List V2) (one two : V2) → IsItem positions k one → IsItem positions (k + 1) two
+triangles_at-more : (i k : ℕ) (positions : List PlaneVector) (one two : PlaneVector) → IsItem positions k one → IsItem positions (k + 1) two
     → triangles_at i k positions ≡ triangle i k one two ∷ triangles_at i (k + 1) positions
 triangles_at-more i k positions one two first second =
-    ap (triangles_from i k) (next_item positions k one first ∙ ap (λ ps. one ∷ ps) (next_item positions (k + 1) two second))
-    ∙ ap (λ ps. triangle i k one two ∷ triangles_from i (k + 1) ps) (sym (next_item positions (k + 1) two second))
+    ap (triangles_from i k) (drop_item positions k one first ∙ ap (λ ps. one ∷ ps) (drop_item positions (k + 1) two second))
+    ∙ ap (λ ps. triangle i k one two ∷ triangles_from i (k + 1) ps) (sym (drop_item positions (k + 1) two second))
 
-triangles_from-short : (i k : ℕ) (positions : List V2) → length positions ≤ 1 → triangles_from i k positions ≡ []
+triangles_from-short : (i k : ℕ) (positions : List PlaneVector) → length positions ≤ 1 → triangles_from i k positions ≡ []
 triangles_from-short i k [] l = refl
 triangles_from-short i k (one ∷ []) l = refl
 triangles_from-short i k (one ∷ (two ∷ positions)) l = absurd (omega arith)
 
 -- the triangles of polygon i before the corners j - 1 and j are in the sum
-pub record AddsTrianglesUpTo (d : ℕ) (sum : Quadratic) (i : ℕ) (positions : List V2) (j : ℕ) (total : Quadratic) : Type 0 where
+pub record AddsTrianglesUpTo (d : ℕ) (sum : Quadratic) (i : ℕ) (positions : List PlaneVector) (j : ℕ) (total : Quadratic) : Type 0 where
   pub is : sum_after d sum (triangles_at i 1 positions) ≡ sum_after d total (triangles_at i (j - 1) positions)
 
 -- the triangle of the corners j - 1 and j is the first of the rest
-next_triangle : (i j : ℕ) (positions : List V2) (one two : V2) → 2 ≤ j → IsItem positions (j - 1) one → IsItem positions j two
+next_triangle : (i j : ℕ) (positions : List PlaneVector) (one two : PlaneVector) → 2 ≤ j → IsItem positions (j - 1) one → IsItem positions j two
     → triangles_at i (j - 1) positions ≡ triangle i (j - 1) one two ∷ triangles_at i (j + 1 - 1) positions
 next_triangle i j positions one two l first second =
     let there : j ≡ j - 1 + 1 = omega arith in
@@ -110,16 +108,26 @@ next_triangle i j positions one two l first second =
     ∙ ap (λ k. triangle i (j - 1) one two ∷ triangles_at i k positions) next
 
 -- one more triangle is added
-pub added_more : (d : ℕ) (sum : Quadratic) (i : ℕ) (positions : List V2) (j : ℕ) (total next : Quadratic) (one two : V2) → 2 ≤ j → IsItem positions (j - 1) one → IsItem positions j two
-    → Ok next ≡ sum_after d total (triangle i (j - 1) one two ∷ []) → AddsTrianglesUpTo d sum i positions j total → AddsTrianglesUpTo d sum i positions (j + 1) next
-added_more d sum i positions j total next one two l first second e a = record {
+pub added_more : (d : ℕ) (sum : Quadratic) (i : ℕ) (positions : List PlaneVector) (j : ℕ) (total next : Quadratic) (one two : PlaneVector) (c : Corner) → c ≡ record { polygon = i; side = j - 1 } → 2 ≤ j
+    → IsItem positions (j - 1) one → IsItem positions j two → Ok next ≡ sum_after d total (triangle c.polygon c.side one two ∷ []) → AddsTrianglesUpTo d sum i positions j total
+    → AddsTrianglesUpTo d sum i positions (j + 1) next
+added_more d sum i positions j total next one two c is l first second e a = record {
   is = a.is
       ∙ ap (sum_after d total) (next_triangle i j positions one two l first second)
-      ∙ sum_after-ok d total next (triangle i (j - 1) one two ∷ []) (triangles_at i (j + 1 - 1) positions) e;
+      ∙ sum_after-ok d total next (triangle i (j - 1) one two ∷ []) (triangles_at i (j + 1 - 1) positions) (e ∙ ap (λ (k : Corner). sum_after d total (triangle k.polygon k.side one two ∷ [])) is);
 }
 
+-- the next triangle has a site, and it is the site of the whole sum
+pub added_stops : (d : ℕ) (sum : Quadratic) (i : ℕ) (positions : List PlaneVector) (j : ℕ) (total : Quadratic) (site : Site) (one two : PlaneVector) (c : Corner) → c ≡ record { polygon = i; side = j - 1 } → 2 ≤ j
+    → IsItem positions (j - 1) one → IsItem positions j two → Err site ≡ sum_after d total (triangle c.polygon c.side one two ∷ []) → AddsTrianglesUpTo d sum i positions j total
+    → Err site ≡ sum_after d sum (triangles_at i 1 positions)
+added_stops d sum i positions j total site one two c is l first second e a =
+    sym (a.is
+    ∙ ap (sum_after d total) (next_triangle i j positions one two l first second)
+    ∙ sum_after-stop d total site (triangle i (j - 1) one two ∷ []) (triangles_at i (j + 1 - 1) positions) (e ∙ ap (λ (k : Corner). sum_after d total (triangle k.polygon k.side one two ∷ [])) is))
+
 -- after all positions the sum has all triangles of the polygon
-pub added_all : (d : ℕ) (sum : Quadratic) (i : ℕ) (positions : List V2) (j : ℕ) (total : Quadratic) → length positions ≤ j → AddsTrianglesUpTo d sum i positions j total
+pub added_all : (d : ℕ) (sum : Quadratic) (i : ℕ) (positions : List PlaneVector) (j : ℕ) (total : Quadratic) → length positions ≤ j → AddsTrianglesUpTo d sum i positions j total
     → Ok total ≡ sum_after d sum (triangles_at i 1 positions)
 added_all d sum i positions j total l a =
     let short : length (drop (j - 1) positions) ≤ 1 = omega (arith, length-drop (j - 1) positions) in
@@ -127,25 +135,17 @@ added_all d sum i positions j total l a =
 
 -- ---- polygon by polygon
 
-some_item : {X : Type 0} (xs : List X) (k : ℕ) → k < length xs → (x : X) × (slice_get xs k ≡ Some x)
-some_item [] k l = absurd (omega arith)
-some_item (x ∷ xs) zero l = (x, refl)
-some_item (x ∷ xs) (suc k) l = some_item xs k (omega arith)
-
-value_at : {X : Type 0} (o : Option X) (P : X → Type 0) (x : X) → o ≡ Some x → IfSome o P → P x
-value_at o P x e h = subst (λ q. IfSome q P) e h
-
 -- a polygon has at most 1,024 positions
-pub few_positions : (s : GluedPolygons) (i : ℕ) (positions : List V2) → IsSurface s → i < length s.polygons
-    → IfSome (slice_get s.polygons i) (λ polygon. positions ≡ positions_from vector_zero (side_vectors polygon)) → length positions ≤ 1024
+pub few_positions : (s : GluedPolygons) (i : ℕ) (positions : List PlaneVector) → IsSurface s → i < length s.polygons
+    → IfSome (slice_get s.polygons i) (λ polygon. positions ≡ positions_from vector_zero (side_vectors polygon)) → length positions ≤ most_sides
 few_positions s i positions surface l h =
-    let (polygon, there) = some_item s.polygons i l in
-    let is : positions ≡ positions_from vector_zero (side_vectors polygon) = value_at (slice_get s.polygons i) (λ polygon. positions ≡ positions_from vector_zero (side_vectors polygon)) polygon there h in
-    let same : length positions ≡ length polygon = ap length is ∙ length-positions_from vector_zero (side_vectors polygon) ∙ length-map polygon (λ side. side.vector) in
-    subst (λ n. n ≤ 1024) (sym same) (all_at (λ polygon. length polygon ≤ 1024) s.polygons i polygon (each_short s.polygons 1024 surface.sides) there)
+    let v = item_inside s.polygons i l in
+    let is : positions ≡ positions_from vector_zero (side_vectors v.value) = value_holds (slice_get s.polygons i) (λ polygon. positions ≡ positions_from vector_zero (side_vectors polygon)) v.value v.is h in
+    let same : length positions ≡ length v.value = ap length is ∙ length-positions_from vector_zero (side_vectors v.value) ∙ length-map v.value (λ side. side.vector) in
+    subst (λ n. n ≤ most_sides) (sym same) (All-slice_get (λ polygon. length polygon ≤ most_sides) s.polygons i v.value (each_length s.polygons most_sides surface.sides) v.is)
 
 -- the triangles of a polygon are added to a sum
-pub polygon_added : (polygons : List (List Side)) (i d d' : ℕ) (sum : Quadratic) (positions : List V2) (r : Result Quadratic Site) → d' ≡ d
+pub polygon_added : (polygons : List (List Side)) (i d d' : ℕ) (sum : Quadratic) (positions : List PlaneVector) (r : Result Quadratic Site) → d' ≡ d
     → IfSome (slice_get polygons i) (λ polygon. positions ≡ positions_from vector_zero (side_vectors polygon)) → r ≡ sum_after d' sum (triangles_at i 1 positions)
     → IfSome (slice_get polygons i) (λ polygon. r ≡ sum_after d sum (triangles_of i (side_vectors polygon)))
 polygon_added polygons i d d' sum positions r same is e =
@@ -159,8 +159,8 @@ triangles_after polygons i = all_triangles i (drop i (map side_vectors polygons)
 polygon_next : (polygons : List (List Side)) (i : ℕ) (polygon : List Side) → slice_get polygons i ≡ Some polygon
     → triangles_after polygons i ≡ triangles_of i (side_vectors polygon) ++ triangles_after polygons (i + 1)
 polygon_next polygons i polygon there =
-    let rows : List (List V2) = map side_vectors polygons in
-    let row : List V2 = side_vectors polygon in
+    let rows : List (List PlaneVector) = map side_vectors polygons in
+    let row : List PlaneVector = side_vectors polygon in
     let at : slice_get rows i ≡ Some row = slice_get-map side_vectors polygons i ∙ ap (option_map side_vectors) there in
     ap (all_triangles i) (drop_more rows i row (slice_get_within rows i row at) ∙ ap (λ r. r ∷ drop (i + 1) rows) (get_or_from_slice_get rows i row row at))
 
@@ -172,12 +172,12 @@ pub record SumsPolygonsUpTo (d : ℕ) (polygons : List (List Side)) (i : ℕ) (s
 pub summed_more : (d : ℕ) (polygons : List (List Side)) (i : ℕ) (sum next : Quadratic) → i < length polygons
     → IfSome (slice_get polygons i) (λ polygon. Ok next ≡ sum_after d sum (triangles_of i (side_vectors polygon))) → SumsPolygonsUpTo d polygons i sum → SumsPolygonsUpTo d polygons (i + 1) next
 summed_more d polygons i sum next l h s =
-    let (polygon, there) = some_item polygons i l in
+    let v = item_inside polygons i l in
     record {
       is = s.is
-          ∙ ap (sum_after d sum) (polygon_next polygons i polygon there)
-          ∙ sum_after-ok d sum next (triangles_of i (side_vectors polygon)) (triangles_after polygons (i + 1))
-          (value_at (slice_get polygons i) (λ polygon. Ok next ≡ sum_after d sum (triangles_of i (side_vectors polygon))) polygon there h);
+          ∙ ap (sum_after d sum) (polygon_next polygons i v.value v.is)
+          ∙ sum_after-ok d sum next (triangles_of i (side_vectors v.value)) (triangles_after polygons (i + 1))
+          (value_holds (slice_get polygons i) (λ polygon. Ok next ≡ sum_after d sum (triangles_of i (side_vectors polygon))) v.value v.is h);
     }
 
 -- the next polygon has a site, and it is the site of the whole sum
@@ -185,17 +185,17 @@ pub summed_stops : (d : ℕ) (polygons : List (List Side)) (i : ℕ) (sum : Quad
     → IfSome (slice_get polygons i) (λ polygon. Err site ≡ sum_after d sum (triangles_of i (side_vectors polygon))) → SumsPolygonsUpTo d polygons i sum
     → Err site ≡ sum_after d ring.zero (triangles_after polygons 0)
 summed_stops d polygons i sum site l h s =
-    let (polygon, there) = some_item polygons i l in
+    let v = item_inside polygons i l in
     sym (s.is
-    ∙ ap (sum_after d sum) (polygon_next polygons i polygon there)
-    ∙ sum_after-stop d sum site (triangles_of i (side_vectors polygon)) (triangles_after polygons (i + 1))
-    (value_at (slice_get polygons i) (λ polygon. Err site ≡ sum_after d sum (triangles_of i (side_vectors polygon))) polygon there h))
+    ∙ ap (sum_after d sum) (polygon_next polygons i v.value v.is)
+    ∙ sum_after-stop d sum site (triangles_of i (side_vectors v.value)) (triangles_after polygons (i + 1))
+    (value_holds (slice_get polygons i) (λ polygon. Err site ≡ sum_after d sum (triangles_of i (side_vectors polygon))) v.value v.is h))
 
 -- after all polygons the sum has all triangles
 pub summed_all : (d : ℕ) (polygons : List (List Side)) (n : ℕ) (sum : Quadratic) → length polygons ≤ n → SumsPolygonsUpTo d polygons n sum
     → Ok sum ≡ sum_after d ring.zero (triangles_after polygons 0)
 summed_all d polygons n sum l s =
-    let rows : List (List V2) = map side_vectors polygons in
+    let rows : List (List PlaneVector) = map side_vectors polygons in
     let long : length rows ≤ n = omega (arith, length-map polygons side_vectors) in
     sym (s.is ∙ ap (λ r. sum_after d sum (all_triangles n r)) (drop_all n rows long))
 
@@ -206,7 +206,7 @@ module _ {A : Type 0} {R : Operations A} (L : IsCommutativeRing R) where
   twice_area-from_zero a b = plane_identity L [] (a ∷ b ∷ []) (λ a b. plane.twice_area E (plane.zero_vector E) a b ≐ plane.cross E a b) refl
 
 cross_of : (d : ℕ) (t : Triangle) → cross d t.one t.two ≡ twice_triangle d t
-cross_of d t = sym (twice_area-from_zero (quadratic_ring d) (vector_of t.one) (vector_of t.two))
+cross_of d t = sym (twice_area-from_zero (quadratic_ring d) t.one t.two)
 
 value_of_step : {A : Type 0} (n : ℕ) (test : Bool) (value x : A) → step n test value ≡ Ok x → x ≡ value
 value_of_step n true value x e = cc
