@@ -9,13 +9,13 @@ use Rattle.fs_ring.proofs.Directions as directions
 use Rattle.fs_ring.proofs.Solver.{expressions as E, ◌≐◌}
 use Rattle.fs_quadratic.specs.Radicand.{IsRadicand}
 use Rattle.fs_quadratic.specs.Ring.{zero as nil, one, neg, quadratic, IsPositive, sign}
-use Rattle.fs_quadratic.proofs.Laws.{field_order}
+use Rattle.fs_quadratic.proofs.Laws.{field_order, quadratic_ring}
 use Rattle.fs_quadratic.proofs.SquareRoot.{radicand_no_square}
 use Rattle.fs_quadratic.proofs.Signs.{positive_of_sign, negative_of_sign}
 use Rattle.fs_cycles.proofs.Iterates.{iterate_after}
 use Rattle.fs_plane.specs.declared.corners.Corner.{Corner}
-use Rattle.fs_plane.specs.Vector.{vector_neg, vector_zero, cross, is_raised, raised_by_signs, PlaneVector}
-use Rattle.fs_plane.proofs.Geometry.{cross_trans, cross_self}
+use Rattle.fs_plane.specs.Vector.{vector_neg, vector_zero, cross, is_raised, raised_by_signs, PlaneVector, east}
+use Rattle.fs_ring.proofs.Plane.{cross_self}
 use Rattle.fs_gluing.specs.declared.surfaces.Side.{Side}
 use Rattle.fs_gluing.specs.Polygons.{at_side, HasSide, all_sides}
 use Rattle.fs_gluing.specs.Surface.{GluedPolygons, IsSurface}
@@ -53,10 +53,6 @@ module _ {d : ℕ} (radicand : IsRadicand d) (v w : PlaneVector) (left : IsPosit
       go Equal Equal av is t e f = absurd (t.from_zero refl refl)
       go Equal Greater av is t e f = let up = ap (λ o. raised_by_signs o (sign d w.x)) (t.from_east refl refl) in cc
 
--- (1,0)
-abbrev east : PlaneVector
-east = record { x = one; y = nil }
-
 module _ {d : ℕ} (radicand : IsRadicand d) where
   left_of_east : (v : PlaneVector) → IsPositive d v.y → IsPositive d (cross d east v)
   left_of_east v p = axis.left_of_axis (field_order radicand) (unit_vector (quadratic d)) refl (field_order radicand).one_positive v p
@@ -71,13 +67,13 @@ module _ {d : ℕ} (radicand : IsRadicand d) where
       → (i : ℕ) → i ≤ m → IsPositive d (cross d (f 0) (f (suc i)))
   onwards w f m side left zero l = left 0 (omega arith)
   onwards w f m side left (suc i) l =
-      cross_trans radicand w (f 0) (f (suc i)) (f (suc (suc i))) (signs.non_negative_of_positive (field_order radicand) (side 0 (omega arith))) (side (suc i) (omega arith)) (side (suc (suc i)) (omega arith))
+      directions.cross_trans (field_order radicand) w (f 0) (f (suc i)) (f (suc (suc i))) (signs.non_negative_of_positive (field_order radicand) (side 0 (omega arith))) (side (suc i) (omega arith)) (side (suc (suc i)) (omega arith))
       (onwards w f m side left i (omega arith)) (left (suc i) l)
 
   never_back : (w : PlaneVector) (f : ℕ → PlaneVector) (m : ℕ) → ((i : ℕ) → i ≤ suc m → IsPositive d (cross d w (f i))) → ((i : ℕ) → i ≤ m → IsPositive d (cross d (f i) (f (suc i))))
       → f (suc m) ≡ f 0 → ⊥
   never_back w f m side left same =
-      signs.positive-ne-zero (field_order radicand) (subst (λ v. IsPositive d (cross d (f 0) v)) same (onwards w f m side left m (omega arith))) (cross_self d (f 0))
+      signs.positive-ne-zero (field_order radicand) (subst (λ v. IsPositive d (cross d (f 0) v)) same (onwards w f m side left m (omega arith))) (cross_self (quadratic_ring d) (f 0))
 
 -- ---- the rays of a vertex
 
@@ -102,7 +98,7 @@ module _ (s : GluedPolygons) (surface : IsSurface s) where
       let r = rays s surface c h in
       subst (λ o. IsPositive s.d (cross s.d (vector_or o) (ray s (next s.polygons c)))) (sym r.begins)
       (subst (λ o. IsPositive s.d (cross s.d r.after.vector (vector_or o))) (sym (next_ray s surface c h r))
-      (directions.positive_by_plane (field_order surface.radicand) [] (r.before.vector ∷ r.after.vector ∷ []) (λ b a. cross_over E a (neg_vector E b) ≐ cross_over E b a) refl r.left))
+      (directions.positive_by_plane (field_order surface.radicand) [] (r.before.vector ∷ r.after.vector ∷ []) (λ b a. cross_over E a (neg_vector E b) ≐ cross_over E b a) refl r.convex))
 
   module _ (c : Corner) (h : HasSide s.polygons c) (none : (e : Corner) → AreOneVertex s.polygons c e → ¬ HoldsEast s e) where
     -- the i-th corner after c

@@ -18,7 +18,7 @@ use Rattle.fs_gluing.specs.Surface.{GluedPolygons, IsSurface, IsPolygon, side_ve
 use Rattle.fs_gluing.specs.NextCorner.{side_before, side_count, length_or_0}
 use Rattle.fs_gluing.specs.Vertices.{HoldsEast}
 use Rattle.fs_gluing.proofs.Polygon.ConvexCorners.{last_side_is}
-use Rattle.fs_gluing.proofs.SurfaceCalls.NextCorner.{in_polygon, has_before}
+use Rattle.fs_gluing.proofs.SurfaceCalls.NextCorner.{in_polygon, has_before, before, before_zero, before_suc}
 use Rattle.fs_stratum.proofs.AxisSigns as axis
 use Rattle.fs_stratum.proofs.SectorOfEast.{is_held, raised-neg, holds_from_test, test_from_holds}
 use Rattle.fs_stratum.proofs.VertexOrbits.{next, partner_or}
@@ -29,18 +29,6 @@ corner_at : (P : CornerSides → Type 0) (b : PlaneVector) (sides : List PlaneVe
 corner_at P b [] j e a all h k = cc
 corner_at P b (s ∷ sides) zero e a all h k = subst (λ x. P (record { before = x; after = a })) (same_Some b e k) (subst (λ x. P (record { before = b; after = x })) (same_Some s a h) all.0)
 corner_at P b (s ∷ sides) (suc j) e a all h k = corner_at P s sides j e a all.1 h k
-
--- the number before k, modulo n
-abbrev pub before : ℕ → ℕ → ℕ
-before n k = if k == 0 then n - 1 else k - 1
-
--- the number before 0
-pub before_zero : (n k : ℕ) → k ≡ 0 → before n k ≡ n - 1
-before_zero n k e = grind (arith, nat_tests)
-
--- the number before k + 1
-pub before_suc : (n k : ℕ) → before n (suc k) ≡ k
-before_suc n k = grind (arith, nat_tests)
 
 vector_at : (polygon : List Side) (j : ℕ) (side : Side) → slice_get polygon j ≡ Some side → slice_get (side_vectors polygon) j ≡ Some side.vector
 vector_at polygon j side e = slice_get-map (λ (s : Side). s.vector) polygon j ∙ ap (option_map (λ (s : Side). s.vector)) e

@@ -4,6 +4,8 @@ use Rattle.std.proofs.lemmas.List.Sums.{sum_by-cons}
 use Rattle.std.proofs.lemmas.List.{length-map}
 use Rattle.std.specs.Option.{option_and_then}
 use Rattle.std.specs.List.{slice_get, range_with_len, AllByRecursion}
+use Rattle.fs_gluing.specs.Gluing.{sides_between}
+use Rattle.fs_gluing.proofs.SurfaceCalls.NextCorner.{before, before_zero, before_suc}
 use Rattle.fs_quadratic.specs.Radicand.{IsRadicand}
 use Rattle.fs_plane.specs.declared.corners.Corner.{Corner}
 use Rattle.fs_plane.specs.Vector.{is_raised, PlaneVector}
@@ -14,10 +16,10 @@ use Rattle.fs_gluing.specs.Surface.{GluedPolygons, IsSurface, IsPolygon, side_ve
 use Rattle.fs_gluing.specs.NextCorner.{side_before, length_or_0}
 use Rattle.fs_lists.proofs.All.{All-weaker}
 use Rattle.fs_lists.proofs.Counts.{tally, one_if, tally-append, tally-agree, tally-map}
-use Rattle.fs_stratum.proofs.AllSides.{corner, row}
+use Rattle.fs_stratum.proofs.AllSides.{corner}
 use Rattle.fs_lists.proofs.Items.{some_of_inside, value_of}
 use Rattle.fs_stratum.proofs.SectorOfEast.{IsConvexOrStraight, is_held, is_east, counted}
-use Rattle.fs_stratum.proofs.CornerRays.{before, before_zero, before_suc, last_is}
+use Rattle.fs_stratum.proofs.CornerRays.{last_is}
 
 -- ---- along the boundary of a polygon, by its vectors
 
@@ -126,7 +128,7 @@ low_at-in : (d : ℕ) (polygons : List (List Side)) (i j : ℕ) (polygon : List 
 low_at-in d polygons i j polygon is = λ k. low_or d (option_and_then (λ p. slice_get p j) (is k))
 
 held-row : {d : ℕ} → IsRadicand d → (polygons : List (List Side)) (i : ℕ) (polygon : List Side) → slice_get polygons i ≡ Some polygon → IsPolygon d (side_vectors polygon)
-    → tally (held_at d polygons) (row i 0 (length polygon)) + 1 ≡ tally (low_at d polygons) (row i 0 (length polygon))
+    → tally (held_at d polygons) (sides_between i 0 (length polygon)) + 1 ≡ tally (low_at d polygons) (sides_between i 0 (length polygon))
 held-row {d} radicand polygons i polygon is p =
     ap (λ n. n + 1) (tally-map (held_at d polygons) (corner i) (range_with_len 0 (length polygon)) ∙ tally-agree _ _ (range_with_len 0 (length polygon)) (λ j h. held_at-in d polygons i j polygon is))
     ∙ held-polygon radicand polygon p
@@ -140,7 +142,7 @@ held-sides_from {d} radicand polygons (polygon ∷ rest) i same all =
     let here : slice_get polygons i ≡ Some polygon = ap (slice_get polygons) plus ∙ same 0 in
     let first = held-row radicand polygons i polygon here all.0 in
     let rec = held-sides_from radicand polygons rest (i + 1) (λ k. ap (slice_get polygons) (let e : i + 1 + k ≡ i + suc k = omega arith in e) ∙ same (suc k)) all.1 in
-    sum_rows _ _ _ _ _ _ _ (tally-append (held_at d polygons) (row i 0 (length polygon)) (sides_from (i + 1) rest)) (tally-append (low_at d polygons) (row i 0 (length polygon)) (sides_from (i + 1) rest)) first rec
+    sum_rows _ _ _ _ _ _ _ (tally-append (held_at d polygons) (sides_between i 0 (length polygon)) (sides_from (i + 1) rest)) (tally-append (low_at d polygons) (sides_between i 0 (length polygon)) (sides_from (i + 1) rest)) first rec
   where
     sum_rows : (h a b l x y n : ℕ) → h ≡ a + b → l ≡ x + y → a + 1 ≡ x → b + n ≡ y → h + suc n ≡ l
     sum_rows h a b l x y n p q r s = omega arith

@@ -1,8 +1,8 @@
 -- The proofs of fs_stratum.
-pub mod Tallies
 pub mod AxisSigns
 pub mod SectorOfEast
 pub mod AllSides
+pub mod CornerOrder
 pub mod VertexOrbits
 pub mod CornerCounts
 pub mod CornerRays

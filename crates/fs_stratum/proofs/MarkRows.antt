@@ -1,15 +1,15 @@
 -- Marks in rows, one for each polygon: at first none is set, and then one after another.
 use Rattle.std.proofs.Common.{◌≡◌, inl, inr, ℕ, zero, suc, ◌+◌, ◌<◌, ◌≤◌, Bool, true, false, Some, List, [], ◌∷◌, ◌++◌, length, map, set, get_or, replicate, take, unwrap_or, sym, ap, ◌∙◌, refl, subst, arith}
 use Rattle.std.proofs.lemmas.Bool.{cases_eq}
-use Rattle.std.proofs.lemmas.Option.{same_Some, slice_get-map, slice_get-get_or, get_or_from_slice_get}
+use Rattle.std.proofs.lemmas.Option.{same_Some, slice_get-map, slice_get-get_or, get_or_from_slice_get, slice_get_within}
 use Rattle.std.proofs.lemmas.List.{length-map, map-set, map-append, take_more, take_all}
 use Rattle.std.specs.Option.{IsSome, IfSome, option_and_then, option_map}
 use Rattle.std.specs.List.{slice_get}
+use Rattle.fs_gluing.proofs.Base.Equality.{corner_eq}
 use Rattle.fs_plane.specs.declared.corners.Corner.{Corner}
 use Rattle.fs_gluing.specs.Polygons.{at_side, HasSide}
 use Rattle.fs_gluing.proofs.SurfaceCalls.NextCorner.{in_polygon}
 use Rattle.fs_stratum.specs.CornerMarks.{is_marked, AreUnmarked, MarksCorner}
-use Rattle.fs_stratum.proofs.AllSides.{corner_eq}
 use Rattle.fs_lists.proofs.Items.{some_of_inside, value_of, slice_get-set_same, slice_get-set_other, some_of_set}
 
 -- a row of marks for each polygon, none of which is set

@@ -15,30 +15,24 @@ use Rattle.fs_gluing.specs.Polygons.{at_side, HasSide, all_sides}
 use Rattle.fs_gluing.specs.Surface.{GluedPolygons, IsSurface, IsPolygon, side_vectors}
 use Rattle.fs_gluing.specs.NextCorner.{IsNextCorner, side_before, side_count}
 use Rattle.fs_gluing.specs.Vertices.{AreOneVertex}
-use Rattle.fs_gluing.proofs.SurfaceCalls.NextCorner.{has_before, in_polygon, next_corner_one_to_one}
+use Rattle.fs_gluing.proofs.SurfaceCalls.NextCorner.{has_before, in_polygon, next_corner_one_to_one, before, before_suc}
 use Rattle.fs_stratum.specs.declared.cones.Cone.{Cone}
 use Rattle.fs_stratum.specs.VertexList.{IsVertex, AreVertices, AreAscending}
 use Rattle.fs_lists.proofs.Counts.{tally}
 use Rattle.std.proofs.lemmas.Option.{slice_get_within}
+use Rattle.fs_stratum.proofs.CornerOrder.{less_of, of_less, less_trans}
+use Rattle.fs_gluing.proofs.Base.Equality.{corner_eq, same_corner}
 use Rattle.fs_lists.specs.Members.{IsIn, AreApart}
-use Rattle.fs_stratum.proofs.AllSides.{corner, corner_eq, same_corner, in_all_sides, all_sides_in, all_sides_distinct}
+use Rattle.fs_stratum.proofs.AllSides.{corner, in_all_sides, all_sides_in, all_sides_distinct}
 use Rattle.fs_lists.proofs.Items.{some_of_inside, value_of}
 use Rattle.fs_stratum.proofs.VertexOrbits.{next, partner_or, is_next_corner, leads_of, one_vertex_of, one_vertex_comm}
-use Rattle.fs_stratum.proofs.CornerRays.{before, before_suc}
 use Rattle.fs_lists.proofs.All.{All-slice_get}
-use Rattle.fs_stratum.proofs.VerticesFound.{less_of, of_less, has_in_row}
+use Rattle.fs_stratum.proofs.VerticesFound.{has_in_row}
 use Rattle.fs_stratum.proofs.HeldCorners.{low_at}
 use Rattle.fs_stratum.proofs.RaisedSides.{partner, pairs, low-half}
 use Rattle.fs_stratum.proofs.EulerSum.{HasEvenSum}
 
 -- ---- least corners
-
--- the order of corners is transitive
-pub less_trans : (a b c : Corner) → corner_cmp a b ≡ Less → corner_cmp b c ≡ Less → corner_cmp a c ≡ Less
-less_trans a b c h k = less_of a c (elim (of_less a b h) [
-  | inl l ↦ elim (of_less b c k) [ inl m ↦ inl (omega arith) | inr m ↦ inl (let e = m.0 in omega arith) ]
-  | inr l ↦ elim (of_less b c k) [ inl m ↦ inl (let e = l.0 in omega arith) | inr m ↦ inr (l.0 ∙ m.0, let f = l.1 in let g = m.1 in omega arith) ]
-])
 
 -- the least corners of the vertices
 abbrev pub firsts : List Cone → List Corner

@@ -1,6 +1,9 @@
 -- Half of the sides of a surface are raised, since partners are opposite.
-use Rattle.std.proofs.Common.{◌≡◌, ◌≢◌, ℕ, ◌+◌, not, Some, List, length, sym, ap, ◌∙◌, refl, subst}
+use Rattle.std.proofs.Common.{◌≡◌, ◌≢◌, ℕ, ◌+◌, not, Some, List, length, sym, ap, ◌∙◌, refl, subst, Bool, arith}
 use Rattle.std.specs.Option.{IsSome}
+use Rattle.std.proofs.Math.Bool.{not-not}
+use Rattle.fs_cycles.proofs.Iterates.{permutes_undone}
+use Rattle.fs_lists.specs.Members.{IsIn, IsDistinct}
 use Rattle.fs_quadratic.proofs.Laws.{field_order}
 use Rattle.fs_cycles.specs.Cycles.{Pairs}
 use Rattle.fs_plane.specs.declared.corners.Corner.{Corner}
@@ -9,8 +12,7 @@ use Rattle.fs_gluing.specs.declared.surfaces.Side.{Side}
 use Rattle.fs_gluing.specs.Polygons.{at_side, HasSide, all_sides}
 use Rattle.fs_gluing.specs.Surface.{GluedPolygons, IsSurface, IsGlued}
 use Rattle.fs_gluing.specs.Vertices.{HoldsEast, IsCount}
-use Rattle.fs_stratum.proofs.Tallies.{tally-half}
-use Rattle.fs_lists.proofs.Counts.{tally}
+use Rattle.fs_lists.proofs.Counts.{tally, tally-at_most, tally-not}
 use Rattle.fs_stratum.proofs.AllSides.{in_all_sides, all_sides_in, all_sides_distinct}
 use Rattle.fs_stratum.proofs.AxisSigns as axis
 use Rattle.fs_stratum.proofs.SectorOfEast.{raised-neg}
@@ -18,6 +20,15 @@ use Rattle.fs_stratum.proofs.VertexOrbits.{partner_or}
 use Rattle.fs_stratum.proofs.CornerRays.{HasRays, rays, rays_from_holds, holds_from_rays, held-rays}
 use Rattle.fs_stratum.proofs.HeldCorners.{held_or, held_at, low_or, low_at, held-all}
 use Rattle.fs_stratum.proofs.CornerCounts.{count-tally}
+
+-- where exactly one of each pair passes the test, half of the items pass it
+tally-half : {X : Type 0} (q : X → Bool) {f : X → X} (xs : List X) → IsDistinct xs → Pairs f xs → ((x : X) → IsIn x xs → q (f x) ≡ not (q x)) → tally q xs + tally q xs ≡ length xs
+tally-half q {f} xs distinct pairs flips =
+    let one = (permutes_undone f f xs pairs.inside pairs.back).one_to_one in
+    let high = tally-at_most q (λ x. not (q x)) f xs xs distinct (λ x i e. (pairs.inside x i, ap not (flips x i) ∙ not-not (q x) ∙ e)) one in
+    let low = tally-at_most (λ x. not (q x)) q f xs xs distinct (λ x i e. (pairs.inside x i, flips x i ∙ e)) one in
+    let sum = tally-not q xs in
+    omega arith
 
 -- the side that a side is glued to
 abbrev pub partner : List (List Side) → Corner → Corner

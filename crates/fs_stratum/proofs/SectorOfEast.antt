@@ -102,14 +102,13 @@ module _ {d : ℕ} (radicand : IsRadicand d) where
     convex_signs =
         let n = radicand_no_square radicand in
         let L = field_order radicand in
-        let b = before in
-        let a = after in record {
-          from_east = λ e f. sign-positive d after.y (axis.from_east L b a convex (zero_of_sign n before.y e) (positive_of_sign n before.x f));
-          from_west = λ e f. sign-negative d after.y (axis.from_west L b a convex (zero_of_sign n before.y e) (negative_of_sign n before.x f));
-          from_zero = λ e f. axis.before-ne-zero L b a convex (zero_of_sign n before.y e) (zero_of_sign n before.x f);
-          to_east = λ e f. sign-negative d before.y (axis.to_east L b a convex (zero_of_sign n after.y e) (positive_of_sign n after.x f));
-          to_west = λ e f. sign-positive d before.y (axis.to_west L b a convex (zero_of_sign n after.y e) (negative_of_sign n after.x f));
-          to_zero = λ e f. axis.after-ne-zero L b a convex (zero_of_sign n after.y e) (zero_of_sign n after.x f);
+        record {
+          from_east = λ e f. sign-positive d after.y (axis.from_east L before after convex (zero_of_sign n before.y e) (positive_of_sign n before.x f));
+          from_west = λ e f. sign-negative d after.y (axis.from_west L before after convex (zero_of_sign n before.y e) (negative_of_sign n before.x f));
+          from_zero = λ e f. axis.before-ne-zero L before after convex (zero_of_sign n before.y e) (zero_of_sign n before.x f);
+          to_east = λ e f. sign-negative d before.y (axis.to_east L before after convex (zero_of_sign n after.y e) (positive_of_sign n after.x f));
+          to_west = λ e f. sign-positive d before.y (axis.to_west L before after convex (zero_of_sign n after.y e) (negative_of_sign n after.x f));
+          to_zero = λ e f. axis.after-ne-zero L before after convex (zero_of_sign n after.y e) (zero_of_sign n after.x f);
         }
 
   -- ---- from side to side: held corners, rises, and the sides that aren't raised
@@ -130,11 +129,9 @@ module _ {d : ℕ} (radicand : IsRadicand d) where
       straight along =
           let n = radicand_no_square radicand in
           let L = field_order radicand in
-          let b = before in
-          let a = after in
-          let up = axis.along_norm L b a along in
-          let same_y = sym (sign-positive_mul n (norm d before) after.y up) ∙ (ap (sign d) (axis.along_y L b a along) ∙ sign-positive_mul n (dot d before after) before.y along.same_way) in
-          let same_x = sym (sign-positive_mul n (norm d before) after.x up) ∙ (ap (sign d) (axis.along_x L b a along) ∙ sign-positive_mul n (dot d before after) before.x along.same_way) in
+          let up = axis.along_norm L before after along in
+          let same_y = sym (sign-positive_mul n (norm d before) after.y up) ∙ (ap (sign d) (axis.along_y L before after along) ∙ sign-positive_mul n (dot d before after) before.y along.same_way) in
+          let same_x = sym (sign-positive_mul n (norm d before) after.x up) ∙ (ap (sign d) (axis.along_x L before after along) ∙ sign-positive_mul n (dot d before after) before.x along.same_way) in
           (λ i. one_if (held_by_signs (sign d before.y) (sign d before.x) (same_y i) (same_x i))
           + one_if (rise_by_signs (sign d before.y) (sign d before.x) (same_y i) (same_x i)) + one_if (is_east d before))
           ∙ (counted_straight (sign d before.y) (sign d before.x)

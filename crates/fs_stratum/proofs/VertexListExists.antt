@@ -3,20 +3,20 @@ use Rattle.std.proofs.Common.{◌≡◌, ◌⊎◌, inl, inr, ℕ, zero, suc, �
 use Rattle.std.proofs.lemmas.List.Elements.{Contains-append_left, Contains-push}
 use Rattle.std.specs.List.{AllByRecursion}
 use Rattle.std.specs.declared.cmp.Ordering.TheVariants.{Less}
+use Rattle.fs_stratum.proofs.CornerOrder.{less_of, not_less_itself, not_less_both_ways}
 use Rattle.fs_lists.proofs.All.{All-append, All-weaker}
 use Rattle.fs_lists.specs.Members.{IsIn}
 use Rattle.fs_lists.proofs.Members.{in_append_cases}
 use Rattle.fs_plane.specs.declared.corners.Corner.{Corner}
-use Rattle.fs_gluing.specs.Gluing.{corner_cmp}
+use Rattle.fs_gluing.specs.Gluing.{corner_cmp, sides_between}
 use Rattle.fs_gluing.specs.Polygons.{HasSide, sides_from, all_sides}
 use Rattle.fs_gluing.specs.Surface.{GluedPolygons, IsSurface}
 use Rattle.fs_gluing.specs.Vertices.{AreOneVertex, HoldsEast, IsCount, IsConeNumber}
 use Rattle.fs_stratum.specs.declared.cones.Cone.{Cone}
 use Rattle.fs_stratum.specs.VertexList.{IsVertex, AreVertices, AreAscending}
-use Rattle.fs_stratum.proofs.AllSides.{corner, row, row_in, sides_from_in, in_all_sides, all_sides_in}
+use Rattle.fs_stratum.proofs.AllSides.{corner, row_in, sides_from_in, in_all_sides, all_sides_in}
 use Rattle.fs_stratum.proofs.VertexOrbits.{has_one_vertex, one_vertex_self, one_vertex_trans, one_vertex_comm}
-use Rattle.fs_stratum.proofs.VerticesFound.{less_of, ascending_push, IsListed}
-use Rattle.fs_stratum.proofs.VertexListUnique.{not_less_itself, not_less_both_ways}
+use Rattle.fs_stratum.proofs.VerticesFound.{ascending_push, IsListed}
 
 -- ---- what isn't refuted
 
@@ -45,7 +45,7 @@ sorted-append (x ∷ xs) ys a b less = (
   sorted-append xs ys a.1 b (λ u v h k. less u v (inr h) k),
 )
 
-row_sorted : (i a n : ℕ) → IsSorted (row i a n)
+row_sorted : (i a n : ℕ) → IsSorted (sides_between i a n)
 row_sorted i a zero = tt
 row_sorted i a (suc n) = (
   (λ e h. let r = row_in i (a + 1) n e h in let p = r.0 in let l = r.1 in less_of (corner i a) e (inr (omega arith, omega arith))),
@@ -55,7 +55,7 @@ row_sorted i a (suc n) = (
 sides_from_sorted : {X : Type 0} (i : ℕ) (polygons : List (List X)) → IsSorted (sides_from i polygons)
 sides_from_sorted i [] = tt
 sides_from_sorted i (polygon ∷ polygons) =
-    sorted-append (row i 0 (length polygon)) (sides_from (i + 1) polygons) (row_sorted i 0 (length polygon)) (sides_from_sorted (i + 1) polygons)
+    sorted-append (sides_between i 0 (length polygon)) (sides_from (i + 1) polygons) (row_sorted i 0 (length polygon)) (sides_from_sorted (i + 1) polygons)
     (λ c e h k.
     let p = (row_in i 0 (length polygon) c h).0 in
     let q = (sides_from_in (i + 1) polygons e k).is in

@@ -2,6 +2,8 @@
 use Rattle.std.proofs.Common.{◌≡◌, ◌⊎◌, inl, inr, ℕ, suc, List, [], ◌∷◌, sym, ap, ◌∙◌, refl, subst, arith}
 use Rattle.std.proofs.lemmas.Bool.{cases_order}
 use Rattle.std.specs.declared.cmp.Ordering.TheVariants.{Less}
+use Rattle.fs_stratum.proofs.CornerOrder.{less_of, of_less, less_trans, not_less_both_ways, corner_cases, not_less_itself}
+use Rattle.fs_gluing.proofs.Base.Equality.{corner_eq}
 use Rattle.fs_lists.specs.Members.{IsIn}
 use Rattle.fs_lists.proofs.Members.{in_of_contains, in_map, All-member}
 use Rattle.fs_plane.specs.declared.corners.Corner.{Corner}
@@ -10,29 +12,8 @@ use Rattle.fs_gluing.specs.Surface.{GluedPolygons, IsSurface}
 use Rattle.fs_gluing.specs.Vertices.{AreOneVertex, IsCount, IsConeNumber}
 use Rattle.fs_stratum.specs.declared.cones.Cone.{Cone}
 use Rattle.fs_stratum.specs.VertexList.{IsVertex, AreVertices, AreAscending, IsGenus}
-use Rattle.fs_stratum.proofs.AllSides.{corner_eq}
 use Rattle.fs_stratum.proofs.VertexOrbits.{one_vertex_comm}
-use Rattle.fs_stratum.proofs.VerticesFound.{less_of, of_less}
-use Rattle.fs_stratum.proofs.Parity.{less_trans, firsts, ascending_tail, ascending_less}
-
--- ---- the order of corners is total
-
--- no corner is less than itself
-pub not_less_itself : (a : Corner) → corner_cmp a a ≡ Less → ⊥
-not_less_itself a h = elim (of_less a a h) [ inl l ↦ omega arith | inr k ↦ let l = k.1 in omega arith ]
-
--- of two corners at most one is less than the other
-pub not_less_both_ways : (a b : Corner) → corner_cmp a b ≡ Less → corner_cmp b a ≡ Less → ⊥
-not_less_both_ways a b h k = not_less_itself a (less_trans a b a h k)
-
-corner_cases : (a b : Corner) → (a ≡ b) ⊎ ((corner_cmp a b ≡ Less) ⊎ (corner_cmp b a ≡ Less))
-corner_cases a b = elim (cases_order a.polygon b.polygon) [
-  | inl e ↦ elim (cases_order a.side b.side) [
-    | inl f ↦ inl (corner_eq e f)
-    | inr s ↦ elim s [ inl l ↦ inr (inl (less_of a b (inr (e, l)))) | inr l ↦ inr (inr (less_of b a (inr (sym e, l)))) ]
-  ]
-  | inr s ↦ elim s [ inl l ↦ inr (inl (less_of a b (inl l))) | inr l ↦ inr (inr (less_of b a (inl l))) ]
-]
+use Rattle.fs_stratum.proofs.Parity.{firsts, ascending_tail, ascending_less}
 
 -- ---- a count is unique
 

@@ -3,6 +3,7 @@ use Rattle.std.proofs.Common.{◌≡◌, ◌⊎◌, inl, inr, ℕ, zero, suc, �
 use Rattle.std.proofs.lemmas.Bool.{cases_Bool}
 use Rattle.std.specs.Bool.{IsTrue}
 use Rattle.std.specs.Option.{IfSome}
+use Rattle.fs_gluing.proofs.Base.Equality.{same_corner}
 use Rattle.fs_gluing.specs.Limits.{most_sides}
 use Rattle.fs_lists.specs.Members.{IsIn}
 use Rattle.fs_plane.specs.declared.corners.Corner.{Corner}
@@ -14,7 +15,7 @@ use Rattle.fs_gluing.specs.NextCorner.{IsNextCorner}
 use Rattle.fs_gluing.specs.Vertices.{IsNthNextCorner, AreOneVertex, HoldsEast, IsCount, IsConeNumber}
 use Rattle.fs_stratum.specs.CornerMarks.{is_marked, Covers, MarksCorner, MarksVertex}
 use Rattle.fs_lists.proofs.Counts.{one_if, tally, tally-less}
-use Rattle.fs_stratum.proofs.AllSides.{same_corner, in_all_sides, all_sides_distinct, length-all_sides}
+use Rattle.fs_stratum.proofs.AllSides.{in_all_sides, all_sides_distinct, length-all_sides}
 use Rattle.fs_stratum.proofs.VertexOrbits.{next, next_is, has_next, has_one_vertex, one_vertex_self, one_vertex_next}
 use Rattle.fs_stratum.proofs.CornerRays.{is_ray_raised, ray_read, holds_from_rays, rays_from_holds}
 use Rattle.fs_stratum.proofs.CornerCounts.{count_same, count_more, count_none, count_at_most}

@@ -22,65 +22,12 @@ use Rattle.fs_stratum.specs.VertexList.{IsVertex, AreAscending, AreVertices}
 use Rattle.fs_stratum.specs.CornerMarks.{is_marked, AreUnmarked, MarksVertex}
 use Rattle.fs_stratum.specs.VerticesFound.{AreFoundBefore}
 use Rattle.std.proofs.lemmas.Option.{slice_get_within}
-use Rattle.fs_stratum.proofs.AllSides.{corner, corner_eq}
+use Rattle.fs_stratum.proofs.CornerOrder.{less_of, of_less, to_next, here_next, next_cases, to_row}
+use Rattle.fs_gluing.proofs.Base.Equality.{corner_eq}
+use Rattle.fs_stratum.proofs.AllSides.{corner}
 use Rattle.fs_lists.proofs.Items.{some_of_inside, value_of}
 use Rattle.fs_stratum.proofs.VertexOrbits.{has_one_vertex, one_vertex_self, one_vertex_trans, one_vertex_comm}
 use Rattle.fs_stratum.proofs.VertexMarks.{not_both}
-
--- ---- the order of corners
-
-wrong_equal : Equal ≡ Less → ⊥
-wrong_equal e = cc
-
-wrong_greater : Greater ≡ Less → ⊥
-wrong_greater e = cc
-
--- a comes before b: by polygon, then by side
-abbrev Precedes : Corner → Corner → Type 0
-Precedes a b = (a.polygon < b.polygon) ⊎ ((a.polygon ≡ b.polygon) × (a.side < b.side))
-
-then_ordering : (a b : Corner) (p q : Ordering) → p ≡ nat_cmp a.polygon b.polygon → q ≡ nat_cmp a.side b.side → corner_cmp a b ≡ ordering_then p q
-then_ordering a b p q e f = λ i. ordering_then (sym e i) (sym f i)
-
--- a corner that comes before another is less
-pub less_of : (a b : Corner) → Precedes a b → corner_cmp a b ≡ Less
-less_of a b (inl l) = then_ordering a b Less (nat_cmp a.side b.side) (nat_cmp_is a.polygon b.polygon Less l) refl
-less_of a b (inr h) = then_ordering a b Equal Less (nat_cmp_is a.polygon b.polygon Equal h.0) (nat_cmp_is a.side b.side Less h.1)
-
--- a corner that is less comes before
-pub of_less : (a b : Corner) → corner_cmp a b ≡ Less → Precedes a b
-of_less a b h = elim (cases_order a.polygon b.polygon) [
-  | inl e ↦ elim (cases_order a.side b.side) [
-    | inl f ↦ let k = sym (then_ordering a b Equal Equal (nat_cmp_is a.polygon b.polygon Equal e) (nat_cmp_is a.side b.side Equal f)) ∙ h in absurd (wrong_equal k)
-    | inr s ↦ elim s [
-      | inl l ↦ inr (e, l)
-      | inr l ↦ let k = sym (then_ordering a b Equal Greater (nat_cmp_is a.polygon b.polygon Equal e) (nat_cmp_is a.side b.side Greater l)) ∙ h in absurd (wrong_greater k)
-    ]
-  ]
-  | inr s ↦ elim s [
-    | inl l ↦ inl l
-    | inr l ↦ let k = sym (then_ordering a b Greater (nat_cmp a.side b.side) (nat_cmp_is a.polygon b.polygon Greater l) refl) ∙ h in absurd (wrong_greater k)
-  ]
-]
-
--- ---- the next corner of a polygon
-to_next : (e : Corner) (i j : ℕ) → corner_cmp e (corner i j) ≡ Less → corner_cmp e (corner i (j + 1)) ≡ Less
-to_next e i j h = less_of e (corner i (j + 1)) (elim (of_less e (corner i j) h) [ inl l ↦ inl l | inr k ↦ inr (k.0, let l = k.1 in omega arith) ])
-
-here_next : (i j : ℕ) → corner_cmp (corner i j) (corner i (j + 1)) ≡ Less
-here_next i j = less_of (corner i j) (corner i (j + 1)) (inr (refl, omega arith))
-
-next_cases : (e : Corner) (i j : ℕ) → corner_cmp e (corner i (j + 1)) ≡ Less → (corner_cmp e (corner i j) ≡ Less) ⊎ (corner i j ≡ e)
-next_cases e i j h = elim (of_less e (corner i (j + 1)) h) [
-  | inl l ↦ inl (less_of e (corner i j) (inl l))
-  | inr k ↦ elim (cases_eq j e.side) [
-    | inl f ↦ inr (corner_eq (sym k.0) f)
-    | inr n ↦ inl (less_of e (corner i j) (inr (k.0, let l = k.1 in omega arith)))
-  ]
-]
-
-to_row : (e : Corner) (i n : ℕ) → corner_cmp e (corner i n) ≡ Less → corner_cmp e (corner (i + 1) 0) ≡ Less
-to_row e i n h = less_of e (corner (i + 1) 0) (elim (of_less e (corner i n) h) [ inl l ↦ inl (omega arith) | inr k ↦ inl (let f = k.0 in omega arith) ])
 
 -- ---- lists of vertices
 
@@ -151,6 +98,10 @@ module _ (s : GluedPolygons) where
       let long : n ≡ length r.value = subst (λ o. IfSome o (λ (polygon : List Side). n ≡ length polygon)) r.is is in
       subst (λ o. IsSome (option_and_then (λ (polygon : List Side). slice_get polygon j) o)) (sym r.is) (some_of_inside r.value j (omega arith))
 
+  -- so does the corner with these numbers
+  pub has_corner_in_row : (c : Corner) (i j n : ℕ) → c ≡ corner i j → i < length s.polygons → IfSome (slice_get s.polygons i) (λ polygon. n ≡ length polygon) → j < n → HasSide s.polygons c
+  has_corner_in_row c i j n same l is m = subst (HasSide s.polygons) (sym same) (has_in_row i j n l is m)
+
   module _ (surface : IsSurface s) where
     -- where a corner isn't marked, no corner of its vertex is
     pub fresh_of_unmarked : (c : Corner) (marks : List (List Bool)) (cones : List Cone) → HasSide s.polygons c → ((e : Corner) → (IsTrue (is_marked marks e) → IsListed cones e) × (IsListed cones e → IsTrue (is_marked marks e)))
@@ -162,10 +113,9 @@ module _ (s : GluedPolygons) where
       | inr h ↦ h
     ]
 
-    -- a corner that isn't marked is the least of a new vertex
-    pub found_new : (i j k : ℕ) (marks more : List (List Bool)) (cones : List Cone) → HasSide s.polygons (corner i j) → AreFoundBefore s (corner i j) marks cones → is_marked marks (corner i j) ≡ false
+    found_at : (i j k : ℕ) (marks more : List (List Bool)) (cones : List Cone) → HasSide s.polygons (corner i j) → AreFoundBefore s (corner i j) marks cones → is_marked marks (corner i j) ≡ false
         → IsConeNumber s (corner i j) k → MarksVertex s.polygons (corner i j) marks more → AreFoundBefore s (corner i (j + 1)) more (cones ++ (record { first = corner i j; k = k }) ∷ [])
-    found_new i j k marks more cones has f free number m =
+    found_at i j k marks more cones has f free number m =
         let c = corner i j in
         let cone : Cone = record { first = c; k = k } in
         let fresh = fresh_of_unmarked c marks cones has f.marked free in
@@ -198,6 +148,14 @@ module _ (s : GluedPolygons) where
             | inr same ↦ (m.marked e).1 (inr (subst (AreOneVertex s.polygons c) same (one_vertex_self s.polygons c)))
           ];
         }
+
+    -- a corner that isn't marked is the least of a new vertex
+    pub found_new : (i j k : ℕ) (marks more : List (List Bool)) (cones : List Cone) (c : Corner) → c ≡ corner i j → HasSide s.polygons c → AreFoundBefore s (corner i j) marks cones → is_marked marks c ≡ false
+        → IsConeNumber s c k → MarksVertex s.polygons c marks more → AreFoundBefore s (corner i (j + 1)) more (cones ++ (record { first = c; k = k }) ∷ [])
+    found_new i j k marks more cones c is has f free number m =
+        subst (λ (x : Corner). AreFoundBefore s (corner i (j + 1)) more (cones ++ (record { first = x; k = k }) ∷ [])) (sym is)
+        (found_at i j k marks more cones (subst (HasSide s.polygons) is has) f (subst (λ x. is_marked marks x ≡ false) is free)
+        (subst (λ x. IsConeNumber s x k) is number) (subst (λ x. MarksVertex s.polygons x marks more) is m))
 
   -- ---- after the last polygon
 

@@ -10,7 +10,7 @@ ghost use Rattle.fs_stratum.specs.VerticesFound.{AreFoundBefore};
 ghost use Rattle.fs_stratum.specs.CornerMarks.{is_marked, Covers, MarksVertex};
 ghost use Rattle.fs_stratum.specs.declared.cones.Cone.{Cone};
 
-use crate::marks::Marks;
+use crate::corner_marks::CornerMarks;
 use fs_fraction::NoMemory;
 use fs_gluing::{Sequence, Surface};
 use fs_plane::Corner;

@@ -15,12 +15,20 @@ use Rattle.fs_gluing.specs.NextCorner.{length_or_0, side_count, side_before, cor
 -- ---- the number before k and the one after it, modulo n
 
 -- the number before k
-abbrev before : ℕ → ℕ → ℕ
+abbrev pub before : ℕ → ℕ → ℕ
 before n k = if k == 0 then n - 1 else k - 1
 
 -- the number after k
 abbrev after : ℕ → ℕ → ℕ
 after n k = if k + 1 == n then 0 else k + 1
+
+-- the number before 0
+pub before_zero : (n k : ℕ) → k ≡ 0 → before n k ≡ n - 1
+before_zero n k e = grind (arith, nat_tests)
+
+-- the number before k + 1
+pub before_suc : (n k : ℕ) → before n (suc k) ≡ k
+before_suc n k = grind (arith, nat_tests)
 
 before-less : (n k : ℕ) → k < n → before n k < n
 before-less n k l = grind (arith, nat_tests)
