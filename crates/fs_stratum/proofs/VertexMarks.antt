@@ -63,91 +63,92 @@ pub record MarksVertexUpTo (s : GluedPolygons) (first : Corner) (old now : List 
 pub not_both : {b : Bool} → b ≡ true → b ≡ false → ⊥
 not_both e f = let both : true ≡ false = sym e ∙ f in cc
 
-module _ (s : GluedPolygons) (first : Corner) (old : List (List Bool)) (fresh : (e : Corner) → AreOneVertex s.polygons first e → is_marked old e ≡ false) where
-  -- before the first mark
-  pub vertex_marks_none : Covers s.polygons old → MarksVertexUpTo s first old old first 0
-  vertex_marks_none covers = record {
-    covers = covers;
-    here = one_vertex_self s.polygons first;
-    sound = λ e h. inl h;
-    kept = λ e h. h;
-    closed = λ e h o. absurd (not_both h (fresh e o));
-    start = inr refl;
-    count = count_none _ (all_sides s.polygons) (λ e i p. not_both p.0.0 (fresh e p.0.1));
-  }
+-- before the first mark
+pub vertex_marks_none : (s : GluedPolygons) (first : Corner) (old : List (List Bool)) → ((e : Corner) → AreOneVertex s.polygons first e → is_marked old e ≡ false) → Covers s.polygons old
+    → MarksVertexUpTo s first old old first 0
+vertex_marks_none s first old fresh covers = record {
+  covers = covers;
+  here = one_vertex_self s.polygons first;
+  sound = λ e h. inl h;
+  kept = λ e h. h;
+  closed = λ e h o. absurd (not_both h (fresh e o));
+  start = inr refl;
+  count = count_none _ (all_sides s.polygons) (λ e i p. not_both p.0.0 (fresh e p.0.1));
+}
 
-  module _ (surface : IsSurface s) (has : HasSide s.polygons first) where
-    -- corner c exists
-    pub has_corner : (now : List (List Bool)) (c : Corner) (k : ℕ) → MarksVertexUpTo s first old now c k → HasSide s.polygons c
-    has_corner now c k r = has_one_vertex s.polygons surface.glued first c has r.here
+module _ {s : GluedPolygons} {first : Corner} {old : List (List Bool)} (surface : IsSurface s) (has : HasSide s.polygons first) where
 
-    -- the count is at most 1,024
-    pub count_few : (now : List (List Bool)) (c : Corner) (k : ℕ) → MarksVertexUpTo s first old now c k → k ≤ most_sides
-    count_few now c k r =
-        let l = count_at_most _ (all_sides s.polygons) k r.count in
-        let e = length-all_sides s.polygons in
-        let f = surface.sides in
-        omega arith
+  -- corner c exists
+  pub has_corner : {now : List (List Bool)} {c : Corner} {k : ℕ} → MarksVertexUpTo s first old now c k → HasSide s.polygons c
+  has_corner {now} {c} {k} r = has_one_vertex s.polygons surface.glued first c has r.here
 
-    -- corner c becomes marked, and its next corner follows
-    pub vertex_marks_more : (now more : List (List Bool)) (c e : Corner) (k n : ℕ) → MarksVertexUpTo s first old now c k → is_marked now c ≡ false → MarksCorner c now more → IsNextCorner s.polygons c e
-        → (HoldsEast s c × (n ≡ suc k)) ⊎ ((¬ HoldsEast s c) × (n ≡ k)) → MarksVertexUpTo s first old more e n
-    vertex_marks_more now more c e k n r free m t counted =
-        let is = next_is s.polygons c e t in record {
-          covers = record { each = λ x h. m.covers.each x (r.covers.each x h) };
-          here = subst (AreOneVertex s.polygons first) (sym is) (one_vertex_next s.polygons surface.glued first c (has_corner now c k r) r.here);
-          sound = λ x h. elim (more_cases c now more m x h) [ inl same ↦ inr (subst (AreOneVertex s.polygons first) (sym same) r.here) | inr l ↦ r.sound x l ];
-          kept = λ x h. more_keeps c now more m x (r.kept x h);
-          closed = λ x h o. elim (more_cases c now more m x h) [
-            | inl same ↦ inr (ap (next s.polygons) same ∙ sym is)
-            | inr l ↦ elim (r.closed x l o) [
-              | inl a ↦ inl (more_keeps c now more m (next s.polygons x) a)
-              | inr b ↦ inl (ap (is_marked more) b ∙ m.here)
-            ]
-          ];
-          start = elim r.start [ inl a ↦ inl (more_keeps c now more m first a) | inr b ↦ inl (ap (is_marked more) b ∙ m.here) ];
-          count = elim counted [
-            | inl a ↦ subst (IsCount Q (all_sides s.polygons)) (sym a.1)
-                (count_more P Q (all_sides s.polygons) c k (all_sides_distinct s.polygons) (in_all_sides s.polygons c (has_corner now c k r))
-                (λ p. not_both p.0.0 free) ((m.here, r.here), a.0)
-                (λ x apart p. ((more_keeps c now more m x p.0.0, p.0.1), p.1))
-                (λ x apart q. elim (more_cases c now more m x q.0.0) [ inl same ↦ absurd (apart (sym same)) | inr l ↦ ((l, q.0.1), q.1) ]) r.count)
-            | inr b ↦ subst (IsCount Q (all_sides s.polygons)) (sym b.1)
-                (count_same P Q (all_sides s.polygons) k
-                (λ x i p. ((more_keeps c now more m x p.0.0, p.0.1), p.1))
-                (λ x i q. elim (more_cases c now more m x q.0.0) [ inl same ↦ absurd (b.0 (subst (HoldsEast s) same q.1)) | inr l ↦ ((l, q.0.1), q.1) ]) r.count)
-          ];
-        }
-      where
-        P : Corner → Type 0
-        P x = (IsTrue (is_marked now x) × AreOneVertex s.polygons first x) × HoldsEast s x
+  -- the count is at most 1,024
+  pub count_few : {now : List (List Bool)} {c : Corner} {k : ℕ} → MarksVertexUpTo s first old now c k → k ≤ most_sides
+  count_few {now} {c} {k} r =
+      let l = count_at_most _ (all_sides s.polygons) k r.count in
+      let e = length-all_sides s.polygons in
+      let f = surface.sides in
+      omega arith
 
-        Q : Corner → Type 0
-        Q x = (IsTrue (is_marked more x) × AreOneVertex s.polygons first x) × HoldsEast s x
-
-    module _ (now : List (List Bool)) (c : Corner) (k : ℕ) (r : MarksVertexUpTo s first old now c k) (met : is_marked now c ≡ true) where
-      step : (e : Corner) → IsTrue (is_marked now e) → AreOneVertex s.polygons first e → IsTrue (is_marked now (next s.polygons e))
-      step e h o = elim (r.closed e h o) [ inl a ↦ a | inr b ↦ ap (is_marked now) b ∙ met ]
-
-      marked_along : (n : ℕ) (a e : Corner) → HasSide s.polygons a → AreOneVertex s.polygons first a → IsTrue (is_marked now a) → IsNthNextCorner s.polygons n a e → IsTrue (is_marked now e)
-      marked_along zero a e h o marked t = ap (is_marked now) (sym t) ∙ marked
-      marked_along (suc n) a e h o marked (mid, t, rest) =
-          let is = next_is s.polygons a mid t in
-          marked_along n (next s.polygons a) e (has_next s.polygons surface.glued a h) (one_vertex_next s.polygons surface.glued first a h o) (step a marked o) (subst (λ x. IsNthNextCorner s.polygons n x e) is rest)
-
-      all_marked_round : (e : Corner) → AreOneVertex s.polygons first e → IsTrue (is_marked now e)
-      all_marked_round e o = marked_along o.0 first e has (one_vertex_self s.polygons first) (elim r.start [ inl a ↦ a | inr b ↦ ap (is_marked now) b ∙ met ]) o.1
-
-      -- where c is marked already, the corners of the vertex are marked
-      pub vertex_marked : MarksVertex s.polygons first old now
-      vertex_marked = record {
-        covers = r.covers;
-        marked = λ e. (r.sound e, (λ h. elim h [ inl a ↦ r.kept e a | inr o ↦ all_marked_round e o ]));
+  -- corner c becomes marked, and its next corner follows
+  pub vertex_marks_more : {now more : List (List Bool)} {c e : Corner} {k n : ℕ} → MarksVertexUpTo s first old now c k → is_marked now c ≡ false → MarksCorner c now more → IsNextCorner s.polygons c e
+      → (HoldsEast s c × (n ≡ suc k)) ⊎ ((¬ HoldsEast s c) × (n ≡ k)) → MarksVertexUpTo s first old more e n
+  vertex_marks_more {now} {more} {c} {e} {k} {n} r free m t counted =
+      let is = next_is s.polygons c e t in record {
+        covers = record { each = λ x h. m.covers.each x (r.covers.each x h) };
+        here = subst (AreOneVertex s.polygons first) (sym is) (one_vertex_next s.polygons surface.glued first c (has_corner r) r.here);
+        sound = λ x h. elim (more_cases c now more m x h) [ inl same ↦ inr (subst (AreOneVertex s.polygons first) (sym same) r.here) | inr l ↦ r.sound x l ];
+        kept = λ x h. more_keeps c now more m x (r.kept x h);
+        closed = λ x h o. elim (more_cases c now more m x h) [
+          | inl same ↦ inr (ap (next s.polygons) same ∙ sym is)
+          | inr l ↦ elim (r.closed x l o) [
+            | inl a ↦ inl (more_keeps c now more m (next s.polygons x) a)
+            | inr b ↦ inl (ap (is_marked more) b ∙ m.here)
+          ]
+        ];
+        start = elim r.start [ inl a ↦ inl (more_keeps c now more m first a) | inr b ↦ inl (ap (is_marked more) b ∙ m.here) ];
+        count = elim counted [
+          | inl a ↦ subst (IsCount Q (all_sides s.polygons)) (sym a.1)
+              (count_more P Q (all_sides s.polygons) c k (all_sides_distinct s.polygons) (in_all_sides s.polygons c (has_corner r))
+              (λ p. not_both p.0.0 free) ((m.here, r.here), a.0)
+              (λ x apart p. ((more_keeps c now more m x p.0.0, p.0.1), p.1))
+              (λ x apart q. elim (more_cases c now more m x q.0.0) [ inl same ↦ absurd (apart (sym same)) | inr l ↦ ((l, q.0.1), q.1) ]) r.count)
+          | inr b ↦ subst (IsCount Q (all_sides s.polygons)) (sym b.1)
+              (count_same P Q (all_sides s.polygons) k
+              (λ x i p. ((more_keeps c now more m x p.0.0, p.0.1), p.1))
+              (λ x i q. elim (more_cases c now more m x q.0.0) [ inl same ↦ absurd (b.0 (subst (HoldsEast s) same q.1)) | inr l ↦ ((l, q.0.1), q.1) ]) r.count)
+        ];
       }
+    where
+      P : Corner → Type 0
+      P x = (IsTrue (is_marked now x) × AreOneVertex s.polygons first x) × HoldsEast s x
 
-      -- where c is marked already, k is the cone number
-      pub vertex_counted : IsConeNumber s first k
-      vertex_counted = count_same _ _ (all_sides s.polygons) k (λ e i p. (p.0.1, p.1)) (λ e i q. ((all_marked_round e q.0, q.0), q.1)) r.count
+      Q : Corner → Type 0
+      Q x = (IsTrue (is_marked more x) × AreOneVertex s.polygons first x) × HoldsEast s x
+
+  module _ {now : List (List Bool)} {c : Corner} {k : ℕ} (r : MarksVertexUpTo s first old now c k) (met : is_marked now c ≡ true) where
+    step : (e : Corner) → IsTrue (is_marked now e) → AreOneVertex s.polygons first e → IsTrue (is_marked now (next s.polygons e))
+    step e h o = elim (r.closed e h o) [ inl a ↦ a | inr b ↦ ap (is_marked now) b ∙ met ]
+
+    marked_along : (n : ℕ) (a e : Corner) → HasSide s.polygons a → AreOneVertex s.polygons first a → IsTrue (is_marked now a) → IsNthNextCorner s.polygons n a e → IsTrue (is_marked now e)
+    marked_along zero a e h o marked t = ap (is_marked now) (sym t) ∙ marked
+    marked_along (suc n) a e h o marked (mid, t, rest) =
+        let is = next_is s.polygons a mid t in
+        marked_along n (next s.polygons a) e (has_next s.polygons surface.glued a h) (one_vertex_next s.polygons surface.glued first a h o) (step a marked o) (subst (λ x. IsNthNextCorner s.polygons n x e) is rest)
+
+    all_marked_round : (e : Corner) → AreOneVertex s.polygons first e → IsTrue (is_marked now e)
+    all_marked_round e o = marked_along o.0 first e has (one_vertex_self s.polygons first) (elim r.start [ inl a ↦ a | inr b ↦ ap (is_marked now) b ∙ met ]) o.1
+
+    -- where c is marked already, the corners of the vertex are marked
+    pub vertex_marked : MarksVertex s.polygons first old now
+    vertex_marked = record {
+      covers = r.covers;
+      marked = λ e. (r.sound e, (λ h. elim h [ inl a ↦ r.kept e a | inr o ↦ all_marked_round e o ]));
+    }
+
+    -- where c is marked already, k is the cone number
+    pub vertex_counted : IsConeNumber s first k
+    vertex_counted = count_same _ _ (all_sides s.polygons) k (λ e i p. (p.0.1, p.1)) (λ e i q. ((all_marked_round e q.0, q.0), q.1)) r.count
 
 -- ---- the tests of the sides that are read at a corner and the next
 

@@ -99,8 +99,8 @@ module _ (s : GluedPolygons) where
       subst (λ o. IsSome (option_and_then (λ (polygon : List Side). slice_get polygon j) o)) (sym r.is) (some_of_inside r.value j (omega arith))
 
   -- so does the corner with these numbers
-  pub has_corner_in_row : (c : Corner) (i j n : ℕ) → c ≡ corner i j → i < length s.polygons → IfSome (slice_get s.polygons i) (λ polygon. n ≡ length polygon) → j < n → HasSide s.polygons c
-  has_corner_in_row c i j n same l is m = subst (HasSide s.polygons) (sym same) (has_in_row i j n l is m)
+  pub has_corner_in_row : {c : Corner} {i j n : ℕ} → c ≡ corner i j → i < length s.polygons → IfSome (slice_get s.polygons i) (λ polygon. n ≡ length polygon) → j < n → HasSide s.polygons c
+  has_corner_in_row {c} {i} {j} {n} same l is m = subst (HasSide s.polygons) (sym same) (has_in_row i j n l is m)
 
   module _ (surface : IsSurface s) where
     -- where a corner isn't marked, no corner of its vertex is
