@@ -1,20 +1,7 @@
-pub mod Checks
-pub mod Vectors
-pub mod Items
-pub mod EachSide
-pub mod Walks
-pub mod Bends
-pub mod PolygonTests
-pub mod Pairs
-pub mod Lines
-pub mod Rows
-pub mod EachPolygon
-pub mod Places
-pub mod Corners
-pub mod Search
-pub mod Glued
-pub mod InSize
-pub mod Judged
-pub mod SomeSurface
-pub mod OneSurface
-pub mod AreaSums
+-- The proofs of fs_gluing, by subject.
+pub mod Base
+pub mod Polygon
+pub mod Scale
+pub mod SurfaceCalls
+pub mod Gluing
+pub mod Outcome

@@ -1,45 +1,44 @@
--- Closed convex polygons, by their side vectors in the order of a walk round them.
+-- Closed convex polygons, by their side vectors in the order of the boundary.
 use Rattle.std.specs.Prelude.{◌≡◌, ℕ, Bool, ◌&&◌, List, [], ◌∷◌, take, count_by}
 use Rattle.fs_quadratic.specs.Ring.{IsPositive}
-use Rattle.fs_plane.specs.declared.vector.V2.{V2}
-use Rattle.fs_plane.specs.Vector.{vector_zero, vector_neg, vector_total, cross, is_upper}
+use Rattle.fs_plane.specs.Vector.{vector_zero, vector_neg, vector_total, cross, is_upper, PlaneVector}
 
--- the place of corner j, that of corner 0 being (0,0)
-abbrev pub corner_place : List V2 → ℕ → V2
-corner_place polygon j = vector_total (take j polygon)
+-- the position of corner j, where corner 0 is at (0,0)
+abbrev pub corner_position : List PlaneVector → ℕ → PlaneVector
+corner_position polygon j = vector_total (take j polygon)
 
--- the sides lead back to where they begin
-abbrev pub IsClosed : List V2 → Type 0
+-- the side vectors sum to (0,0)
+abbrev pub IsClosed : List PlaneVector → Type 0
 IsClosed polygon = vector_total polygon ≡ vector_zero
 
 -- a corner by the side that ends there and the side that begins there
-pub record Bend : Type 0 where
-  pub before : V2
-  pub after : V2
+pub record CornerSides : Type 0 where
+  pub before : PlaneVector
+  pub after : PlaneVector
 
--- the corners at which these sides begin, where a walk comes from one side and goes along them
-abbrev pub bends_from : V2 → List V2 → List Bend
-bends_from before [] = []
-bends_from before (side ∷ sides) = record { before = before; after = side } ∷ bends_from side sides
+-- the corners at which these sides begin, where the side before the first of them is given
+abbrev pub corners_from : PlaneVector → List PlaneVector → List CornerSides
+corners_from before [] = []
+corners_from before (side ∷ sides) = record { before = before; after = side } ∷ corners_from side sides
 
--- the last of the sides
-abbrev pub last_side : List V2 → V2
+-- the last side, or (0,0) where there is none
+abbrev pub last_side : List PlaneVector → PlaneVector
 last_side [] = vector_zero
 last_side (side ∷ []) = side
 last_side (side ∷ (next ∷ sides)) = last_side (next ∷ sides)
 
--- the corners of a polygon: at corner 0 its last side ends
-abbrev pub bends : List V2 → List Bend
-bends polygon = bends_from (last_side polygon) polygon
+-- the corners of a polygon: the side that ends at corner 0 is the last one
+abbrev pub corners_of : List PlaneVector → List CornerSides
+corners_of polygon = corners_from (last_side polygon) polygon
 
--- the walk turns left there
-abbrev pub TurnsLeft : ℕ → Bend → Type 0
-TurnsLeft d bend = IsPositive d (cross d bend.before bend.after)
+-- the angle at the corner is less than π: the boundary turns left there
+abbrev pub IsStrictlyConvex : ℕ → CornerSides → Type 0
+IsStrictlyConvex d corner = IsPositive d (cross d corner.before corner.after)
 
--- the walk passes from the lower half to the upper: the opposite of the side before points into the upper half, and so does the side after
-abbrev pub is_rise : ℕ → Bend → Bool
-is_rise d bend = is_upper d (vector_neg bend.before) && is_upper d bend.after
+-- the boundary passes from the lower half to the upper: the opposite of the side before points into the upper half, and so does the side after
+abbrev pub is_rise : ℕ → CornerSides → Bool
+is_rise d corner = is_upper d (vector_neg corner.before) && is_upper d corner.after
 
--- the walk goes round once
-abbrev pub TurnsOnce : ℕ → List V2 → Type 0
-TurnsOnce d polygon = count_by (is_rise d) (bends polygon) ≡ 1
+-- the turning number is 1: at exactly one corner the boundary passes from the lower half to the upper
+abbrev pub HasTurningNumberOne : ℕ → List PlaneVector → Type 0
+HasTurningNumberOne d polygon = count_by (is_rise d) (corners_of polygon) ≡ 1

@@ -1,12 +1,11 @@
--- What is tested of a shape, in which order, and what is answered where a test fails.
+-- What is tested of a shape, in which order, and which fault or overflow a failed test gives.
 use Rattle.std.specs.Prelude.{◌≡◌, ◌≢◌, ℕ, ◌+◌, ◌≤◌, ◌⊎◌, List, [], ◌∷◌, ◌++◌, Option, Some, None, Result, Ok, Err, length, map, Contains}
 use Rattle.std.specs.List.{AllByRecursion, flat_map, range_with_len}
-use Rattle.fs_quadratic.specs.First.{IsFirstWithout}
+use Rattle.fs_lists.specs.First.{IsFirstWithout}
 use Rattle.fs_quadratic.specs.Width.{Fits}
 use Rattle.fs_plane.specs.declared.corners.Corner.{Corner}
 use Rattle.fs_plane.specs.declared.sites.Site.TheVariants as sites
-use Rattle.fs_plane.specs.declared.vector.V2.{V2}
-use Rattle.fs_plane.specs.Vector.{vector_neg}
+use Rattle.fs_plane.specs.Vector.{vector_neg, PlaneVector}
 use Rattle.fs_plane.specs.Checked.{place}
 use Rattle.fs_plane.specs.Formulas.{cross_after}
 use Rattle.fs_gluing.specs.declared.shapes.Glue.{Glue}
@@ -14,11 +13,11 @@ use Rattle.fs_gluing.specs.declared.shapes.Shape.{Shape}
 use Rattle.fs_gluing.specs.declared.faults.Fault.TheVariants as faults
 use Rattle.fs_gluing.specs.declared.faults.BuildStop.{BuildStop}
 use Rattle.fs_gluing.specs.declared.faults.BuildStop.TheVariants as stops
-use Rattle.fs_gluing.specs.Convex.{Bend, IsClosed, TurnsLeft, TurnsOnce, bends, corner_place}
+use Rattle.fs_gluing.specs.Convex.{CornerSides, IsClosed, IsStrictlyConvex, HasTurningNumberOne, corners_of, corner_position}
 use Rattle.fs_gluing.specs.Gluing.{IsPairOf}
 use Rattle.fs_gluing.specs.Polygons.{HasSide, at_side, all_sides}
 use Rattle.fs_gluing.specs.Reached.{IsReached}
-use Rattle.fs_gluing.specs.Scaling.{ScaleTest, Common_fits, Part_fits, PassesScale, scale_tests}
+use Rattle.fs_gluing.specs.Scaling.{ScaleTest, common_fits, part_fits, PassesScale, scale_tests}
 use Rattle.fs_gluing.specs.Shape.{glued_sides, polygons_of, HasShape}
 use Rattle.fs_gluing.specs.Surface.{GluedPolygons, IsSurface}
 
@@ -27,82 +26,84 @@ use Rattle.fs_gluing.specs.Surface.{GluedPolygons, IsSurface}
 -- what is tested of a polygon
 pub data PolygonTest : Type 0 where
   -- it has three sides or more
-  Enough : PolygonTest
-  -- the place of corner j plus side j is within the width, in x and in y
-  X_fits : (j : ℕ) → PolygonTest
-  Y_fits : (j : ℕ) → PolygonTest
+  three_sides : PolygonTest
+  -- the position of corner j plus side j is within the width, in x and in y
+  x_fits : (j : ℕ) → PolygonTest
+  y_fits : (j : ℕ) → PolygonTest
   -- it closes
-  Closes : PolygonTest
-  -- at corner j the cross product of the two sides doesn't stop at place p
-  Cross_fits : (j : ℕ) → Bend → (p : ℕ) → PolygonTest
-  -- it turns left at corner j
-  Left : (j : ℕ) → Bend → PolygonTest
-  -- it goes round once
-  Once : PolygonTest
+  polygon_closes : PolygonTest
+  -- at corner j the cross product of the two sides doesn't overflow at place p
+  cross_fits : (j : ℕ) → CornerSides → (p : ℕ) → PolygonTest
+  -- corner j is strictly convex
+  corner_convex : (j : ℕ) → CornerSides → PolygonTest
+  -- its turning number is 1
+  turning_number_one : PolygonTest
 
-abbrev pub PassesIn : ℕ → List V2 → PolygonTest → Type 0
-PassesIn d polygon Enough = 3 ≤ length polygon
-PassesIn d polygon (X_fits j) = Fits (corner_place polygon (j + 1)).x
-PassesIn d polygon (Y_fits j) = Fits (corner_place polygon (j + 1)).y
-PassesIn d polygon Closes = IsClosed polygon
-PassesIn d polygon (Cross_fits j bend p) = cross_after 0 d bend.before bend.after ≢ Err (place p)
-PassesIn d polygon (Left j bend) = TurnsLeft d bend
-PassesIn d polygon Once = TurnsOnce d polygon
+-- the polygon passes the test
+abbrev pub PassesIn : ℕ → List PlaneVector → PolygonTest → Type 0
+PassesIn d polygon three_sides = 3 ≤ length polygon
+PassesIn d polygon (x_fits j) = Fits (corner_position polygon (j + 1)).x
+PassesIn d polygon (y_fits j) = Fits (corner_position polygon (j + 1)).y
+PassesIn d polygon polygon_closes = IsClosed polygon
+PassesIn d polygon (cross_fits j corner p) = cross_after 0 d corner.before corner.after ≢ Err (place p)
+PassesIn d polygon (corner_convex j corner) = IsStrictlyConvex d corner
+PassesIn d polygon turning_number_one = HasTurningNumberOne d polygon
 
--- the tests of a walk round n sides
-abbrev pub walk_tests : ℕ → List PolygonTest
-walk_tests n = flat_map (λ j. X_fits j ∷ Y_fits j ∷ []) (range_with_len 0 n)
+-- the tests of the positions at the ends of n sides
+abbrev pub position_tests : ℕ → List PolygonTest
+position_tests n = flat_map (λ j. x_fits j ∷ y_fits j ∷ []) (range_with_len 0 n)
 
 -- the tests of these corners, the first of which has the number j
-abbrev pub corner_tests : ℕ → List Bend → List PolygonTest
+abbrev pub corner_tests : ℕ → List CornerSides → List PolygonTest
 corner_tests j [] = []
-corner_tests j (bend ∷ rest) = Cross_fits j bend 1 ∷ Cross_fits j bend 2 ∷ Cross_fits j bend 3 ∷ Left j bend ∷ corner_tests (j + 1) rest
+corner_tests j (corner ∷ rest) = cross_fits j corner 1 ∷ cross_fits j corner 2 ∷ cross_fits j corner 3 ∷ corner_convex j corner ∷ corner_tests (j + 1) rest
 
--- the order within a polygon
-abbrev pub polygon_tests : List V2 → List PolygonTest
-polygon_tests polygon = Enough ∷ (walk_tests (length polygon) ++ Closes ∷ (corner_tests 0 (bends polygon) ++ Once ∷ []))
+-- the tests of a polygon, in order
+abbrev pub polygon_tests : List PlaneVector → List PolygonTest
+polygon_tests polygon = three_sides ∷ (position_tests (length polygon) ++ polygon_closes ∷ (corner_tests 0 (corners_of polygon) ++ turning_number_one ∷ []))
 
 -- ---- one glue line
 
 -- what is tested of a glue line
 pub data LineTest : Type 0 where
-  -- both of its sides are there
-  Present : Glue → LineTest
-  -- they differ, and none of them stands on an earlier line
-  Single : (earlier : List Glue) → Glue → LineTest
+  -- both of its sides exist
+  sides_exist : Glue → LineTest
+  -- they differ, and neither is on an earlier line
+  glued_once : (earlier : List Glue) → Glue → LineTest
   -- they are opposite
-  Opposite : Glue → LineTest
+  sides_opposite : Glue → LineTest
 
--- there are both vectors, and the second is the opposite of the first
-abbrev pub AreOpposite : Option V2 → Option V2 → Type 0
+-- both vectors exist, and the second is the opposite of the first
+abbrev pub AreOpposite : Option PlaneVector → Option PlaneVector → Type 0
 AreOpposite (Some a) (Some b) = b ≡ vector_neg a
 AreOpposite (Some a) None = ⊥
 AreOpposite None b = ⊥
 
-abbrev pub PassesLine : List (List V2) → LineTest → Type 0
-PassesLine polygons (Present g) = HasSide polygons g.one × HasSide polygons g.two
-PassesLine polygons (Single earlier g) = (g.one ≢ g.two) × (¬ Contains (glued_sides earlier) g.one) × (¬ Contains (glued_sides earlier) g.two)
-PassesLine polygons (Opposite g) = AreOpposite (at_side polygons g.one) (at_side polygons g.two)
+-- the glue line passes the test
+abbrev pub PassesLine : List (List PlaneVector) → LineTest → Type 0
+PassesLine polygons (sides_exist g) = HasSide polygons g.one × HasSide polygons g.two
+PassesLine polygons (glued_once earlier g) = (g.one ≢ g.two) × (¬ Contains (glued_sides earlier) g.one) × (¬ Contains (glued_sides earlier) g.two)
+PassesLine polygons (sides_opposite g) = AreOpposite (at_side polygons g.one) (at_side polygons g.two)
 
--- the order of the tests of glue lines that stand behind others
+-- the tests of glue lines that come after others, in order
 abbrev pub line_tests : List Glue → List Glue → List LineTest
 line_tests earlier [] = []
-line_tests earlier (g ∷ glues) = Present g ∷ Single earlier g ∷ Opposite g ∷ line_tests (earlier ++ g ∷ []) glues
+line_tests earlier (g ∷ glues) = sides_exist g ∷ glued_once earlier g ∷ sides_opposite g ∷ line_tests (earlier ++ g ∷ []) glues
 
 -- ---- the whole shape
 
 -- what is tested of a shape
 pub data Test : Type 0 where
   -- while it is scaled
-  Scale : ScaleTest → Test
+  of_scaling : ScaleTest → Test
   -- of polygon i, which has these sides
-  Polygon : (i : ℕ) → (polygon : List V2) → PolygonTest → Test
+  of_polygon : (i : ℕ) → (polygon : List PlaneVector) → PolygonTest → Test
   -- of a glue line
-  Line : LineTest → Test
+  of_line : LineTest → Test
   -- the side is on a glue line
-  Glued : Corner → Test
+  side_glued : Corner → Test
   -- polygon i is reached from polygon 0 through glued sides
-  Reached : (i : ℕ) → Test
+  polygon_reached : (i : ℕ) → Test
 
 -- some line glues a side of polygon i to one of polygon j
 pub record Joins (glues : List Glue) (i j : ℕ) : Type 0 where
@@ -112,56 +113,57 @@ pub record Joins (glues : List Glue) (i j : ℕ) : Type 0 where
   pub from : one.polygon ≡ i
   pub to : two.polygon ≡ j
 
-abbrev pub Passes : ℕ → List (List V2) → List Glue → Test → Type 0
-Passes d polygons glues (Scale test) = PassesScale test
-Passes d polygons glues (Polygon i polygon test) = PassesIn d polygon test
-Passes d polygons glues (Line test) = PassesLine polygons test
-Passes d polygons glues (Glued c) = Contains (glued_sides glues) c
-Passes d polygons glues (Reached i) = IsReached (Joins glues) i
+-- a scaled shape passes the test
+abbrev pub Passes : ℕ → List (List PlaneVector) → List Glue → Test → Type 0
+Passes d polygons glues (of_scaling test) = PassesScale test
+Passes d polygons glues (of_polygon i polygon test) = PassesIn d polygon test
+Passes d polygons glues (of_line test) = PassesLine polygons test
+Passes d polygons glues (side_glued c) = Contains (glued_sides glues) c
+Passes d polygons glues (polygon_reached i) = IsReached (Joins glues) i
 
 -- the tests of polygons, the first of which has the number i
-abbrev pub tests_from : ℕ → List (List V2) → List Test
+abbrev pub tests_from : ℕ → List (List PlaneVector) → List Test
 tests_from i [] = []
-tests_from i (polygon ∷ polygons) = map (Polygon i polygon) (polygon_tests polygon) ++ tests_from (i + 1) polygons
+tests_from i (polygon ∷ polygons) = map (of_polygon i polygon) (polygon_tests polygon) ++ tests_from (i + 1) polygons
 
--- the order once a shape is scaled: the polygons, the glue lines, the sides, and the polygons once more
-abbrev pub tests : List (List V2) → List Glue → List Test
+-- the tests of a scaled shape, in order: the polygons, the glue lines, the sides, and the polygons once more
+abbrev pub tests : List (List PlaneVector) → List Glue → List Test
 tests polygons glues =
     tests_from 0 polygons
-    ++ (map Line (line_tests [] glues)
-    ++ (map Glued (all_sides polygons)
-    ++ map Reached (range_with_len 0 (length polygons))))
+    ++ (map of_line (line_tests [] glues)
+    ++ (map side_glued (all_sides polygons)
+    ++ map polygon_reached (range_with_len 0 (length polygons))))
 
--- what is answered where a test fails
-abbrev pub answer : Test → BuildStop
-answer (Scale (Common_fits i j p m n)) = stops.Overflow (sites.Scale i j p)
-answer (Scale (Part_fits i j p k z)) = stops.Overflow (sites.Scale i j p)
-answer (Polygon i polygon Enough) = stops.Fault (faults.FewSides i)
-answer (Polygon i polygon (X_fits j)) = stops.Overflow (sites.Close i j 1)
-answer (Polygon i polygon (Y_fits j)) = stops.Overflow (sites.Close i j 2)
-answer (Polygon i polygon Closes) = stops.Fault (faults.NotClosed i)
-answer (Polygon i polygon (Cross_fits j bend p)) = stops.Overflow (sites.Corner i j p)
-answer (Polygon i polygon (Left j bend)) = stops.Fault (faults.NotConvex (record { polygon = i; side = j }))
-answer (Polygon i polygon Once) = stops.Fault (faults.TurnsTwice i)
-answer (Line (Present g)) = stops.Fault (faults.NoSuchSide g.line)
-answer (Line (Single earlier g)) = stops.Fault (faults.GluedTwice g.line)
-answer (Line (Opposite g)) = stops.Fault (faults.NotOpposite g.line)
-answer (Glued c) = stops.Fault (faults.Unglued c)
-answer (Reached i) = stops.Fault (faults.Apart i)
+-- the fault or overflow that a failed test gives
+abbrev pub stop_of : Test → BuildStop
+stop_of (of_scaling (common_fits i j p m n)) = stops.Overflow (sites.Scale i j p)
+stop_of (of_scaling (part_fits i j p k z)) = stops.Overflow (sites.Scale i j p)
+stop_of (of_polygon i polygon three_sides) = stops.Fault (faults.FewSides i)
+stop_of (of_polygon i polygon (x_fits j)) = stops.Overflow (sites.Close i j 1)
+stop_of (of_polygon i polygon (y_fits j)) = stops.Overflow (sites.Close i j 2)
+stop_of (of_polygon i polygon polygon_closes) = stops.Fault (faults.NotClosed i)
+stop_of (of_polygon i polygon (cross_fits j corner p)) = stops.Overflow (sites.Corner i j p)
+stop_of (of_polygon i polygon (corner_convex j corner)) = stops.Fault (faults.NotConvex (record { polygon = i; side = j }))
+stop_of (of_polygon i polygon turning_number_one) = stops.Fault (faults.TurnsTwice i)
+stop_of (of_line (sides_exist g)) = stops.Fault (faults.NoSuchSide g.line)
+stop_of (of_line (glued_once earlier g)) = stops.Fault (faults.GluedTwice g.line)
+stop_of (of_line (sides_opposite g)) = stops.Fault (faults.NotOpposite g.line)
+stop_of (side_glued c) = stops.Fault (faults.Unglued c)
+stop_of (polygon_reached i) = stops.Fault (faults.Apart i)
 
 -- the shape passes a test of its polygons and glue lines
 abbrev pub PassesOf : ℕ → Shape → Test → Type 0
 PassesOf d shape = Passes d (polygons_of shape) shape.glues
 
--- the tests of a shape in their order: scaling comes first
+-- the tests of a shape, in order: scaling comes first
 abbrev pub tests_of : Shape → List Test
-tests_of shape = map Scale (scale_tests shape.polygons) ++ tests (polygons_of shape) shape.glues
+tests_of shape = map of_scaling (scale_tests shape.polygons) ++ tests (polygons_of shape) shape.glues
 
 -- the first test in the order that the shape fails
 abbrev pub IsFirstFailure : ℕ → Shape → Test → Type 0
 IsFirstFailure d shape test = IsFirstWithout (PassesOf d shape) (tests_of shape) test
 
--- a surface exactly where all tests pass, else the answer to the first that fails; want of memory at any time
-abbrev pub Judges : ℕ → Shape → Result GluedPolygons BuildStop → Type 0
-Judges d shape (Ok s) = IsSurface s × HasShape d shape s × AllByRecursion (PassesOf d shape) (tests_of shape)
-Judges d shape (Err e) = (e ≡ stops.NoMemory) ⊎ ((test : Test) × IsFirstFailure d shape test × (e ≡ answer test))
+-- the result of building a shape: a surface exactly where all tests pass, else what the first failed test gives; out of memory at any time
+abbrev pub IsBuildResult : ℕ → Shape → Result GluedPolygons BuildStop → Type 0
+IsBuildResult d shape (Ok s) = IsSurface s × HasShape d shape s × AllByRecursion (PassesOf d shape) (tests_of shape)
+IsBuildResult d shape (Err e) = (e ≡ stops.NoMemory) ⊎ ((test : Test) × IsFirstFailure d shape test × (e ≡ stop_of test))

@@ -1,14 +1,16 @@
+-- The definitions of fs_gluing: surfaces, what they are built from, and which faults a shape has.
+pub mod Limits
 pub mod Polygons
 pub mod Convex
 pub mod Reached
 pub mod Surface
-pub mod Places
-pub mod Turning
+pub mod Positions
+pub mod NextCorner
 pub mod Vertices
 pub mod Scaling
 pub mod Shape
 pub mod Gluing
 pub mod FirstFault
-pub mod Checks
-pub mod Marks
+pub mod TestsInOrder
+pub mod SearchMarks
 pub mod Area

@@ -3,11 +3,11 @@ use Rattle.std.specs.Prelude.{ℕ, ◌+◌, List, [], ◌∷◌, ◌++◌, Optio
 use Rattle.std.specs.List.{slice_get, range_with_len}
 use Rattle.fs_plane.specs.declared.corners.Corner.{Corner}
 
--- what stands at a side, where there is that side
+-- the item of a side, where that side exists
 abbrev pub at_side : {X : Type 0} → List (List X) → Corner → Option X
 at_side polygons c = option_and_then (λ polygon. slice_get polygon c.side) (slice_get polygons c.polygon)
 
--- there is that side
+-- that side exists
 abbrev pub HasSide : {X : Type 0} → List (List X) → Corner → Type 0
 HasSide polygons c = IsSome (at_side polygons c)
 

@@ -1,12 +1,12 @@
 -- Translation surfaces: polygons with a gluing.
 use Rattle.std.specs.Prelude.{◌≡◌, ◌≢◌, ℕ, ℤ, pos, ◌<◌, ◌≤◌, ◌<ℤ◌, List, Some, length, map, sum_by}
 use Rattle.std.specs.List.{AllByRecursion}
+use Rattle.fs_gluing.specs.Limits.{most_polygons, most_sides}
 use Rattle.fs_quadratic.specs.Radicand.{IsRadicand}
 use Rattle.fs_plane.specs.declared.corners.Corner.{Corner}
-use Rattle.fs_plane.specs.declared.vector.V2.{V2}
-use Rattle.fs_plane.specs.Vector.{vector_neg}
+use Rattle.fs_plane.specs.Vector.{vector_neg, PlaneVector}
 use Rattle.fs_gluing.specs.declared.surfaces.Side.{Side}
-use Rattle.fs_gluing.specs.Convex.{IsClosed, TurnsLeft, TurnsOnce, bends}
+use Rattle.fs_gluing.specs.Convex.{IsClosed, IsStrictlyConvex, HasTurningNumberOne, corners_of}
 use Rattle.fs_gluing.specs.Polygons.{at_side}
 use Rattle.fs_gluing.specs.Reached.{IsReached}
 
@@ -17,15 +17,15 @@ pub record GluedPolygons : Type 0 where
   pub polygons : List (List Side)
 
 -- the vectors of a polygon's sides
-abbrev pub side_vectors : List Side → List V2
+abbrev pub side_vectors : List Side → List PlaneVector
 side_vectors polygon = map (λ side. side.vector) polygon
 
--- a polygon: it has three sides or more and closes, turns left at each corner, and goes round once
-pub record IsPolygon (d : ℕ) (polygon : List V2) : Type 0 where
+-- a polygon: it has three sides or more, closes, is strictly convex at each corner, and has turning number 1
+pub record IsPolygon (d : ℕ) (polygon : List PlaneVector) : Type 0 where
   pub three : 3 ≤ length polygon
   pub closed : IsClosed polygon
-  pub convex : AllByRecursion (TurnsLeft d) (bends polygon)
-  pub once : TurnsOnce d polygon
+  pub convex : AllByRecursion (IsStrictlyConvex d) (corners_of polygon)
+  pub turning_number : HasTurningNumberOne d polygon
 
 -- the side at c is glued to another side, which has the opposite vector and is glued to it
 pub record IsGlued (polygons : List (List Side)) (c : Corner) (side : Side) : Type 0 where
@@ -40,13 +40,13 @@ pub record AreNeighbours (polygons : List (List Side)) (i j : ℕ) : Type 0 wher
   pub from : corner.polygon ≡ i
   pub to : side.partner.polygon ≡ j
 
--- what a surface is, within the limits: polygons, each side of which is glued to exactly one other, and which hang together
+-- a surface within the limits: polygons, each side of which is glued to exactly one other, and which are connected
 pub record IsSurface (s : GluedPolygons) : Type 0 where
   pub radicand : IsRadicand s.d
   pub den : pos 0 <ℤ s.den
   pub some_polygon : 0 < length s.polygons
-  pub polygons : length s.polygons ≤ 256
-  pub sides : sum_by length s.polygons ≤ 1024
+  pub polygons : length s.polygons ≤ most_polygons
+  pub sides : sum_by length s.polygons ≤ most_sides
   pub each : AllByRecursion (λ polygon. IsPolygon s.d (side_vectors polygon)) s.polygons
   pub glued : (c : Corner) (side : Side) → at_side s.polygons c ≡ Some side → IsGlued s.polygons c side
-  pub together : (k : ℕ) → k < length s.polygons → IsReached (AreNeighbours s.polygons) k
+  pub connected : (k : ℕ) → k < length s.polygons → IsReached (AreNeighbours s.polygons) k

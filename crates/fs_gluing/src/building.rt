@@ -1,16 +1,18 @@
+// `build`: the surface of a shape, or its first fault or overflow.
+
 ghost use Rattle.std.specs.Prelude.{◌≡◌, ◌⊎◌, ◌≤◌, ◌<◌, ℕ, List, Err, length, map, Some, IsSome, IfOk, OnOk, IfErr};
 ghost use Rattle.std.specs.List.{AllByRecursion};
 ghost use Rattle.std.specs.BTreeMap.{get};
-ghost use Rattle.fs_plane.specs.declared.vector.V2.{V2};
+ghost use Rattle.fs_gluing.specs.Limits.{most_polygons, most_sides};
 ghost use Rattle.fs_gluing.specs.declared.faults.BuildStop.{BuildStop};
 ghost use Rattle.fs_gluing.specs.declared.shapes.Glue.{Glue};
 ghost use Rattle.fs_gluing.specs.Polygons.{all_sides};
-ghost use Rattle.fs_gluing.specs.Places.{all_places};
+ghost use Rattle.fs_gluing.specs.Positions.{all_positions};
 ghost use Rattle.fs_gluing.specs.Shape.{IsWithinLimits};
-ghost use Rattle.fs_gluing.specs.FirstFault.{Test, IsFirstFailure, answer, Judges, Passes, tests_from};
-ghost use Rattle.fs_gluing.specs.FirstFault.Test.{Glued};
-ghost use Rattle.fs_gluing.specs.Checks.{AnswersFirst};
-ghost use Rattle.fs_gluing.specs.Gluing.{corner_cmp, sides_between, glued_row, glued_rows};
+ghost use Rattle.fs_gluing.specs.FirstFault.{Test, IsFirstFailure, stop_of, IsBuildResult, Passes, tests_from};
+ghost use Rattle.fs_gluing.specs.FirstFault.Test.{side_glued};
+ghost use Rattle.fs_gluing.specs.TestsInOrder.{IsFirstStop};
+ghost use Rattle.fs_gluing.specs.Gluing.{corner_cmp, sides_between, glued_polygon, glued_polygons};
 
 use crate::faults::{BuildStop, Fault};
 use crate::glue_lines::pair_sides;
@@ -22,57 +24,58 @@ use crate::shapes::Shape;
 use crate::surfaces::{Side, Surface};
 use fs_plane::{Corner, V2};
 use fs_quadratic::Field;
+use fs_quadratic::width::signed;
 use std::alloc::Global;
 use std::collections::BTreeMap;
 
 /// The surface of a shape of 1 to 256 polygons and at most 1,024 sides.
 ///
-/// The vectors of the shape are in true size. Those of the surface, and the places of its corners,
-/// are the true ones times its denominator, which is the least common one of all coordinates.
+/// The vectors of the shape are unscaled. Those of the surface, and the positions of its corners,
+/// are scaled: multiplied by its denominator, a common one of all coordinates.
 ///
-/// Tried in this order, the first failure being the answer. Of all sides: that the common
-/// denominator up to each of them is within the width, and then that each part of their vectors
-/// is, times the denominator (`Overflow` at the site `Scale`). Of each polygon in turn: that it has
-/// three sides (`FewSides`), that the places of its corners, side by side, are within the width
-/// (`Overflow` at the site `Close`), that it closes (`NotClosed`); of each of its corners in turn
-/// that the cross product of the two sides is within the width (`Overflow` at the site `Corner`)
-/// and positive (`NotConvex`); that it goes round once (`TurnsTwice`). Of each glue line in turn:
-/// that its sides are there (`NoSuchSide`), that they differ and stand on no earlier line
+/// Tested in this order; the first failure is returned. Of all sides: that the common denominator
+/// up to each of them doesn't overflow, and then that no part of their vectors overflows, times
+/// the denominator (`Overflow` at the site `Scale`). Of each polygon in turn: that it has three
+/// sides (`FewSides`), that the positions of its corners, side by side, don't overflow (`Overflow`
+/// at the site `Close`), that it closes (`NotClosed`); of each of its corners in turn that the
+/// cross product of the two sides doesn't overflow (`Overflow` at the site `Corner`) and is
+/// positive (`NotConvex`); that it has turning number 1 (`TurnsTwice`). Of each glue line in turn:
+/// that its sides exist (`NoSuchSide`), that they differ and are on no earlier line
 /// (`GluedTwice`), that they are opposite (`NotOpposite`). Of each side in turn, that it is on a
 /// glue line (`Unglued`). Of each polygon in turn, that glued sides lead to it from polygon 0
-/// (`Apart`). `NoMemory` may come at any time.
+/// (`Apart`). `NoMemory` is returned where memory runs out, at any time.
 pub fn build(alloc: Global, field: Field, shape: &Shape) -> Result<Surface, BuildStop>
     requires { IsWithinLimits shape.now }
-    ensures judged { Judges field.d shape.now result }
+    ensures outcome { IsBuildResult field.d shape.now result }
     ensures first { (test : Test) → IsFirstFailure field.d shape.now test
-        → (result ≡ Err BuildStop.NoMemory) ⊎ (result ≡ Err (answer test)) }
+        → (result ≡ Err BuildStop.NoMemory) ⊎ (result ≡ Err (stop_of test)) }
 {
     let scaled = scale(alloc, shape)?;
-    let places = check_polygons(alloc, field, &scaled.polygons)?;
+    let positions = check_polygons(alloc, field, &scaled.polygons)?;
     let partners = pair_sides(alloc, &scaled.polygons, shape.glues.as_slice())?;
     let glued = glue_polygons(alloc, &scaled.polygons, &partners)?;
     check_reached(alloc, &glued)?;
-    Ok(Surface::new(field, scaled.den, glued, places))
+    Ok(Surface::new(field, signed(scaled.den), glued, positions))
 }
 
-// The places of all corners, where each polygon passes its tests.
+// The positions of all corners, where each polygon passes its tests.
 fn check_polygons(
     alloc: Global,
     field: Field,
     polygons: &Sequence<Sequence<V2>>,
 ) -> Result<Sequence<Sequence<V2>>, BuildStop>
-    requires few { length polygons.now ≤ 256 }
-    requires short { AllByRecursion (λ polygon. length polygon ≤ 1024) polygons.now }
+    requires few { length polygons.now ≤ most_polygons }
+    requires short { AllByRecursion (λ polygon. length polygon ≤ most_sides) polygons.now }
     ensures passed { OnOk result ((glues : List Glue) → AllByRecursion (Passes field.d polygons.now glues) (tests_from 0 polygons.now)) }
-    ensures places { IfOk result (λ places. places ≡ all_places polygons.now) }
+    ensures positions { IfOk result (λ positions. positions ≡ all_positions polygons.now) }
     ensures failed { IfErr result (λ e. (e ≡ BuildStop.NoMemory) ⊎ ((glues : List Glue)
-        → AnswersFirst (Passes field.d polygons.now glues) (tests_from 0 polygons.now) answer e)) }
+        → IsFirstStop (Passes field.d polygons.now glues) (tests_from 0 polygons.now) stop_of e)) }
 {
-    let mut places = Sequence::new(alloc);
+    let mut positions = Sequence::new(alloc);
     for (i, polygon) in polygons.as_slice().iter().enumerate() {
-        places.push(check_polygon(alloc, field, i as u16, polygon.as_slice())?)?;
+        positions.push(check_polygon(alloc, field, i as u16, polygon.as_slice())?)?;
     }
-    Ok(places)
+    Ok(positions)
 }
 
 // The polygons with the partner of each side, or the first side that has none.
@@ -81,12 +84,12 @@ fn glue_polygons(
     polygons: &Sequence<Sequence<V2>>,
     partners: &BTreeMap<Corner, Corner>,
 ) -> Result<Sequence<Sequence<Side>>, BuildStop>
-    requires few { length polygons.now ≤ 256 }
-    requires short { AllByRecursion (λ polygon. length polygon ≤ 1024) polygons.now }
-    ensures glued { IfOk result (λ rows. rows ≡ glued_rows (get corner_cmp partners.now) 0 polygons.now) }
+    requires few { length polygons.now ≤ most_polygons }
+    requires short { AllByRecursion (λ polygon. length polygon ≤ most_sides) polygons.now }
+    ensures glued { IfOk result (λ rows. rows ≡ glued_polygons (get corner_cmp partners.now) 0 polygons.now) }
     ensures passed { OnOk result (AllByRecursion (λ c. IsSome (get corner_cmp partners.now c)) (all_sides polygons.now)) }
     ensures failed { IfErr result (λ e. (e ≡ BuildStop.NoMemory)
-        ⊎ AnswersFirst (λ c. IsSome (get corner_cmp partners.now c)) (all_sides polygons.now) (λ c. answer (Glued c)) e) }
+        ⊎ IsFirstStop (λ c. IsSome (get corner_cmp partners.now c)) (all_sides polygons.now) (λ c. stop_of (side_glued c)) e) }
 {
     let mut rows = Sequence::new(alloc);
     for (i, polygon) in polygons.as_slice().iter().enumerate() {
@@ -102,18 +105,15 @@ fn glue_polygon(
     sides: &[V2],
     partners: &BTreeMap<Corner, Corner>,
 ) -> Result<Sequence<Side>, BuildStop>
-    requires { length sides.now ≤ 1024 }
-    ensures glued { IfOk result (λ row. row ≡ glued_row (get corner_cmp partners.now) i 0 sides.now) }
+    requires { length sides.now ≤ most_sides }
+    ensures glued { IfOk result (λ row. row ≡ glued_polygon (get corner_cmp partners.now) i 0 sides.now) }
     ensures passed { OnOk result (AllByRecursion (λ c. IsSome (get corner_cmp partners.now c)) (sides_between i 0 (length sides.now))) }
     ensures failed { IfErr result (λ e. (e ≡ BuildStop.NoMemory)
-        ⊎ AnswersFirst (λ c. IsSome (get corner_cmp partners.now c)) (sides_between i 0 (length sides.now)) (λ c. answer (Glued c)) e) }
+        ⊎ IsFirstStop (λ c. IsSome (get corner_cmp partners.now c)) (sides_between i 0 (length sides.now)) (λ c. stop_of (side_glued c)) e) }
 {
     let mut row = Sequence::new(alloc);
     for (j, vector) in sides.iter().enumerate() {
-        let corner = Corner {
-            polygon: i,
-            side: j as u16,
-        };
+        let corner = Corner::new(i, j as u16);
         let Some(partner) = partners.get(&corner) else {
             return Err(BuildStop::Fault(Fault::Unglued(corner)));
         };

@@ -1,3 +1,5 @@
+// The faults of a job, and why a shape has no surface.
+
 ghost use Rattle.std.specs.Prelude.{◌≡◌};
 ghost use Rattle.fs_gluing.specs.declared.faults.BuildStop.TheVariants.{NoMemory};
 
@@ -7,19 +9,19 @@ use std::alloc::{AllocError, AllocFailed};
 /// What is wrong with a job. Polygons and sides are numbered from 0, lines from 1.
 #[derive(Clone, Copy, Debug, PartialEq, Eq, Hash)]
 pub enum Fault {
-    /// The line has a byte other than a tab and those from the space to the tilde.
+    /// The line has a byte that is neither a tab nor one of those from the space to the tilde.
     NotAscii { line: u32 },
     /// The first line that isn't blank isn't the header, or there is none.
     BadHeader,
-    /// The line may not come there, or has the wrong form.
+    /// The line isn't allowed there, or has the wrong form.
     BadLine { line: u32 },
-    /// A text on the line is no number.
+    /// A text on the line isn't a number.
     BadNumber { line: u32 },
-    /// The d is that of no field.
+    /// No field has this d.
     BadField,
-    /// A limit leaves no room for the line.
+    /// The line exceeds a limit.
     TooMany { line: u32 },
-    /// The last line doesn't come.
+    /// The last line is missing.
     NoEnd,
     /// A number on the line has a run of more than 18 digits.
     Wide { line: u32 },
@@ -27,11 +29,11 @@ pub enum Fault {
     FewSides { polygon: u16 },
     /// The sides of the polygon don't sum to (0,0).
     NotClosed { polygon: u16 },
-    /// The polygon doesn't turn left at the corner.
+    /// The polygon isn't strictly convex at the corner.
     NotConvex(Corner),
-    /// The polygon goes round more than once.
+    /// The turning number of the polygon isn't 1.
     TurnsTwice { polygon: u16 },
-    /// A side on the line isn't there.
+    /// A side on the line doesn't exist.
     NoSuchSide { line: u32 },
     /// A side on the line is on an earlier glue line, or the line names one side twice.
     GluedTwice { line: u32 },
@@ -39,20 +41,20 @@ pub enum Fault {
     NotOpposite { line: u32 },
     /// The side is on no glue line.
     Unglued(Corner),
-    /// No glued sides lead from polygon 0 to the polygon.
+    /// The polygon isn't connected to polygon 0.
     Apart { polygon: u16 },
     /// There are more than 1,048,576 bytes.
     TooLong,
 }
 
-/// Why no surface is built from a shape.
+/// Why a shape has no surface.
 #[derive(Clone, Copy, Debug, PartialEq, Eq, Hash)]
 pub enum BuildStop {
     /// The shape isn't that of a surface.
     Fault(Fault),
-    /// An exact result leaves the width.
+    /// An exact result overflows.
     Overflow(Site),
-    /// Memory ran out.
+    /// Out of memory.
     NoMemory,
 }
 

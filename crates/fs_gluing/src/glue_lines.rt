@@ -1,14 +1,16 @@
+// The tests of glue lines, and the partners of sides.
+
 ghost use Rattle.std.specs.Prelude.{◌≡◌, ◌⊎◌, ◌↔◌, List, [], ◌∷◌, ◌++◌, IsTrue, Some, IfOk, OnOk, IfErr};
 ghost use Rattle.std.specs.List.{AllByRecursion};
 ghost use Rattle.std.specs.BTreeMap.{get};
-ghost use Rattle.fs_plane.specs.declared.vector.V2.{V2};
+ghost use Rattle.fs_plane.specs.Vector.{PlaneVector};
 ghost use Rattle.fs_gluing.specs.declared.faults.BuildStop.{BuildStop};
 ghost use Rattle.fs_gluing.specs.declared.shapes.Glue.{Glue};
 ghost use Rattle.fs_gluing.specs.Polygons.{HasSide, at_side};
-ghost use Rattle.fs_gluing.specs.FirstFault.{PassesLine, line_tests, answer};
-ghost use Rattle.fs_gluing.specs.FirstFault.LineTest.{Single};
-ghost use Rattle.fs_gluing.specs.FirstFault.Test.{Line};
-ghost use Rattle.fs_gluing.specs.Checks.{AnswersFirst};
+ghost use Rattle.fs_gluing.specs.FirstFault.{PassesLine, line_tests, stop_of};
+ghost use Rattle.fs_gluing.specs.FirstFault.LineTest.{glued_once};
+ghost use Rattle.fs_gluing.specs.FirstFault.Test.{of_line};
+ghost use Rattle.fs_gluing.specs.TestsInOrder.{IsFirstStop};
 ghost use Rattle.fs_gluing.specs.Gluing.{corner_cmp, ArePartners};
 
 use crate::faults::{BuildStop, Fault};
@@ -27,7 +29,7 @@ pub fn pair_sides(
     ensures passed { OnOk result (AllByRecursion (PassesLine polygons.now) (line_tests [] glues.now)) }
     ensures paired { IfOk result (λ partners. ArePartners glues.now (get corner_cmp partners)) }
     ensures failed { IfErr result (λ e. (e ≡ BuildStop.NoMemory)
-        ⊎ AnswersFirst (PassesLine polygons.now) (line_tests [] glues.now) (λ test. answer (Line test)) e) }
+        ⊎ IsFirstStop (PassesLine polygons.now) (line_tests [] glues.now) (λ test. stop_of (of_line test)) e) }
 {
     let mut partners = BTreeMap::new(alloc);
     for glue in glues {
@@ -39,15 +41,15 @@ pub fn pair_sides(
 
 // Makes each of the two sides on a glue line the partner of the other.
 fn pair(partners: &mut BTreeMap<Corner, Corner>, glue: &Glue) -> Result<(), AllocError>
-    ensures { OnOk result ((polygons : List (List V2)) → (earlier : List Glue) → ArePartners earlier (get corner_cmp partners.old)
-        → PassesLine polygons (Single earlier glue.now) → ArePartners (earlier ++ glue.now ∷ []) (get corner_cmp partners.new)) }
+    ensures { OnOk result ((polygons : List (List PlaneVector)) → (earlier : List Glue) → ArePartners earlier (get corner_cmp partners.old)
+        → PassesLine polygons (glued_once earlier glue.now) → ArePartners (earlier ++ glue.now ∷ []) (get corner_cmp partners.new)) }
 {
     partners.insert(glue.one, glue.two)?;
     partners.insert(glue.two, glue.one)?;
     Ok(())
 }
 
-// That a glue line passes its tests, where the lines before it glue these partners.
+// That a glue line passes its tests, where these are the partners from the lines before it.
 fn check_glue(
     polygons: &Sequence<Sequence<V2>>,
     partners: &BTreeMap<Corner, Corner>,
@@ -56,7 +58,7 @@ fn check_glue(
     ensures passed { OnOk result ((earlier : List Glue) → ArePartners earlier (get corner_cmp partners.now)
         → AllByRecursion (PassesLine polygons.now) (line_tests earlier (glue.now ∷ []))) }
     ensures failed { IfErr result (λ e. (earlier : List Glue) → ArePartners earlier (get corner_cmp partners.now)
-        → AnswersFirst (PassesLine polygons.now) (line_tests earlier (glue.now ∷ [])) (λ test. answer (Line test)) e) }
+        → IsFirstStop (PassesLine polygons.now) (line_tests earlier (glue.now ∷ [])) (λ test. stop_of (of_line test)) e) }
 {
     let line = glue.line;
     let (Some(one), Some(two)) = (vector_at(polygons, glue.one), vector_at(polygons, glue.two))
@@ -75,7 +77,7 @@ fn check_glue(
     Ok(())
 }
 
-// The vector of a side, where it is there.
+// The vector of a side, where that side exists.
 fn vector_at(polygons: &Sequence<Sequence<V2>>, c: Corner) -> Option<V2>
     ensures { result ≡ at_side polygons.now c }
 {

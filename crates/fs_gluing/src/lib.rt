@@ -5,6 +5,7 @@ mod areas;
 mod building;
 mod faults;
 mod glue_lines;
+mod limits;
 mod polygons;
 mod reaching;
 mod scaling;
@@ -14,6 +15,7 @@ mod surfaces;
 
 pub use building::build;
 pub use faults::{BuildStop, Fault};
+pub use limits::{MOST_POLYGONS, MOST_SIDES};
 pub use sequence::Sequence;
 pub use shapes::{Glue, Point, Shape};
 pub use surfaces::{Side, Surface};

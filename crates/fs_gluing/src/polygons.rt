@@ -1,14 +1,16 @@
+// The tests of a polygon, and the positions of its corners.
+
 ghost use Rattle.std.specs.Prelude.{◌≡◌, ℕ, List, [], ◌∷◌, ◌++◌, ◌≤◌, ◌⊎◌, length, IfOk, OnOk, IfErr, count_by};
 ghost use Rattle.std.specs.List.{AllByRecursion};
-ghost use Rattle.fs_plane.specs.declared.vector.V2.{V2};
-ghost use Rattle.fs_plane.specs.Vector.{vector_zero};
+ghost use Rattle.fs_plane.specs.Vector.{PlaneVector, vector_zero};
+ghost use Rattle.fs_gluing.specs.Limits.{most_sides};
 ghost use Rattle.fs_gluing.specs.declared.faults.BuildStop.{BuildStop};
-ghost use Rattle.fs_gluing.specs.Convex.{bends, is_rise, last_side};
-ghost use Rattle.fs_gluing.specs.Places.{places_from};
-ghost use Rattle.fs_gluing.specs.FirstFault.{PassesIn, polygon_tests, walk_tests, corner_tests, answer};
-ghost use Rattle.fs_gluing.specs.FirstFault.PolygonTest.{Closes};
-ghost use Rattle.fs_gluing.specs.FirstFault.Test.{Polygon};
-ghost use Rattle.fs_gluing.specs.Checks.{AnswersFirst};
+ghost use Rattle.fs_gluing.specs.Convex.{corners_of, is_rise, last_side};
+ghost use Rattle.fs_gluing.specs.Positions.{positions_from};
+ghost use Rattle.fs_gluing.specs.FirstFault.{PassesIn, polygon_tests, position_tests, corner_tests, stop_of};
+ghost use Rattle.fs_gluing.specs.FirstFault.PolygonTest.{polygon_closes};
+ghost use Rattle.fs_gluing.specs.FirstFault.Test.{of_polygon};
+ghost use Rattle.fs_gluing.specs.TestsInOrder.{IsFirstStop};
 
 use crate::faults::{BuildStop, Fault};
 use crate::sequence::Sequence;
@@ -17,111 +19,90 @@ use fs_quadratic::Field;
 use std::alloc::Global;
 use std::cmp::Ordering;
 
-// The places of the corners of the polygon with the number i, where it passes its tests.
+// The positions of the corners of the polygon with the number i, where it passes its tests.
 pub fn check_polygon(
     alloc: Global,
     field: Field,
     i: u16,
     sides: &[V2],
 ) -> Result<Sequence<V2>, BuildStop>
-    requires { length sides.now ≤ 1024 }
+    requires { length sides.now ≤ most_sides }
     ensures passed { OnOk result (AllByRecursion (PassesIn field.d sides.now) (polygon_tests sides.now)) }
-    ensures places { IfOk result (λ places. places ≡ places_from vector_zero sides.now) }
+    ensures positions { IfOk result (λ positions. positions ≡ positions_from vector_zero sides.now) }
     ensures failed { IfErr result (λ e. (e ≡ BuildStop.NoMemory)
-        ⊎ AnswersFirst (PassesIn field.d sides.now) (polygon_tests sides.now) (λ test. answer (Polygon i sides.now test)) e) }
+        ⊎ IsFirstStop (PassesIn field.d sides.now) (polygon_tests sides.now) (λ test. stop_of (of_polygon i sides.now test)) e) }
 {
     if sides.len() < 3 {
         return Err(BuildStop::Fault(Fault::FewSides { polygon: i }));
     }
-    let places = walk(alloc, i, sides)?;
+    let positions = find_positions(alloc, i, sides)?;
     check_corners(field, i, sides)?;
     if count_rises(field, sides) != 1 {
         return Err(BuildStop::Fault(Fault::TurnsTwice { polygon: i }));
     }
-    Ok(places)
+    Ok(positions)
 }
 
-// The places of the corners, where each is within the width and the polygon closes.
-fn walk(alloc: Global, i: u16, sides: &[V2]) -> Result<Sequence<V2>, BuildStop>
-    requires { length sides.now ≤ 1024 }
-    ensures passed { OnOk result ((d : ℕ) → AllByRecursion (PassesIn d sides.now) (walk_tests (length sides.now) ++ Closes ∷ [])) }
-    ensures places { IfOk result (λ places. places ≡ places_from vector_zero sides.now) }
+// The positions of the corners, where none overflows and the polygon closes.
+fn find_positions(alloc: Global, i: u16, sides: &[V2]) -> Result<Sequence<V2>, BuildStop>
+    requires { length sides.now ≤ most_sides }
+    ensures passed { OnOk result ((d : ℕ) → AllByRecursion (PassesIn d sides.now) (position_tests (length sides.now) ++ polygon_closes ∷ [])) }
+    ensures positions { IfOk result (λ positions. positions ≡ positions_from vector_zero sides.now) }
     ensures failed { IfErr result (λ e. (e ≡ BuildStop.NoMemory) ⊎ ((d : ℕ) →
-        AnswersFirst (PassesIn d sides.now) (walk_tests (length sides.now) ++ Closes ∷ []) (λ test. answer (Polygon i sides.now test)) e)) }
+        IsFirstStop (PassesIn d sides.now) (position_tests (length sides.now) ++ polygon_closes ∷ []) (λ test. stop_of (of_polygon i sides.now test)) e)) }
 {
-    let polygon = u32::from(i);
-    let mut places = Sequence::new(alloc);
-    let mut place = V2::ZERO;
+    let mut positions = Sequence::new(alloc);
+    let mut position = V2::ZERO;
     for (j, vector) in sides.iter().enumerate() {
-        let side = j as u32;
-        places.push(place)?;
-        let Ok(x) = place.x.add(vector.x) else {
-            return Err(BuildStop::Overflow(Site::Close {
-                polygon,
-                side,
-                place: 1,
-            }));
+        let corner = Corner::new(i, j as u16);
+        positions.push(position)?;
+        let Ok(x) = position.x.add(vector.x) else {
+            return Err(BuildStop::Overflow(Site::closing(corner, 1)));
         };
-        let Ok(y) = place.y.add(vector.y) else {
-            return Err(BuildStop::Overflow(Site::Close {
-                polygon,
-                side,
-                place: 2,
-            }));
+        let Ok(y) = position.y.add(vector.y) else {
+            return Err(BuildStop::Overflow(Site::closing(corner, 2)));
         };
-        place = V2 { x, y };
+        position = V2 { x, y };
     }
-    if place != V2::ZERO {
+    if position != V2::ZERO {
         return Err(BuildStop::Fault(Fault::NotClosed { polygon: i }));
     }
-    Ok(places)
+    Ok(positions)
 }
 
-// That the polygon with the number i turns left at each corner.
+// That each corner of the polygon with the number i is strictly convex.
 fn check_corners(field: Field, i: u16, sides: &[V2]) -> Result<(), BuildStop>
-    requires { length sides.now ≤ 1024 }
-    ensures passed { OnOk result (AllByRecursion (PassesIn field.d sides.now) (corner_tests 0 (bends sides.now))) }
+    requires { length sides.now ≤ most_sides }
+    ensures passed { OnOk result (AllByRecursion (PassesIn field.d sides.now) (corner_tests 0 (corners_of sides.now))) }
     ensures failed { IfErr result
-        (AnswersFirst (PassesIn field.d sides.now) (corner_tests 0 (bends sides.now)) (λ test. answer (Polygon i sides.now test))) }
+        (IsFirstStop (PassesIn field.d sides.now) (corner_tests 0 (corners_of sides.now)) (λ test. stop_of (of_polygon i sides.now test))) }
 {
     let mut before = last_side(sides);
     for (j, after) in sides.iter().enumerate() {
-        check_corner(
-            field,
-            Corner {
-                polygon: i,
-                side: j as u16,
-            },
-            before,
-            *after,
-        )?;
+        check_corner(field, Corner::new(i, j as u16), before, *after)?;
         before = *after;
     }
     Ok(())
 }
 
-// That the side after a corner turns left from the side before it.
+// That a corner is strictly convex, by the side before it and the side after it.
 fn check_corner(field: Field, corner: Corner, before: V2, after: V2) -> Result<(), BuildStop>
-    ensures passed { OnOk result ((sides : List V2) → AllByRecursion (PassesIn field.d sides)
+    ensures passed { OnOk result ((sides : List PlaneVector) → AllByRecursion (PassesIn field.d sides)
         (corner_tests corner.side (record { before = before; after = after } ∷ []))) }
-    ensures failed { IfErr result (λ e. (sides : List V2) → AnswersFirst (PassesIn field.d sides)
-        (corner_tests corner.side (record { before = before; after = after } ∷ [])) (λ test. answer (Polygon corner.polygon sides test)) e) }
+    ensures failed { IfErr result (λ e. (sides : List PlaneVector) → IsFirstStop (PassesIn field.d sides)
+        (corner_tests corner.side (record { before = before; after = after } ∷ [])) (λ test. stop_of (of_polygon corner.polygon sides test)) e) }
 {
     match cross(field, before, after) {
-        Ok(turn) if field.sign(turn) == Ordering::Greater => Ok(()),
+        Ok(product) if field.sign(product) == Ordering::Greater => Ok(()),
         Ok(_) => Err(BuildStop::Fault(Fault::NotConvex(corner))),
-        Err(Place(place)) => Err(BuildStop::Overflow(Site::Corner {
-            polygon: u32::from(corner.polygon),
-            side: u32::from(corner.side),
-            place,
-        })),
+        Err(Place(place)) => Err(BuildStop::Overflow(Site::convexity(corner, place))),
     }
 }
 
-// At how many corners the walk passes from the lower half to the upper.
+// At how many corners the boundary passes from the lower half to the upper.
 fn count_rises(field: Field, sides: &[V2]) -> usize
-    requires { length sides.now ≤ 1024 }
-    ensures { result ≡ count_by (is_rise field.d) (bends sides.now) }
+    requires { length sides.now ≤ most_sides }
+    ensures { result ≡ count_by (is_rise field.d) (corners_of sides.now) }
 {
     let mut before = last_side(sides);
     let mut rises = 0;

@@ -1,15 +1,18 @@
+// The test that a surface is connected.
+
 ghost use Rattle.std.specs.Prelude.{◌≡◌, ◌⊎◌, ◌<◌, ◌≤◌, Some, length, IfOk, OnOk, IfErr};
 ghost use Rattle.std.specs.List.{AllByRecursion, range_with_len};
 ghost use Rattle.fs_plane.specs.declared.corners.Corner.{Corner};
+ghost use Rattle.fs_gluing.specs.Limits.{most_polygons};
 ghost use Rattle.fs_gluing.specs.declared.faults.BuildStop.{BuildStop};
 ghost use Rattle.fs_gluing.specs.declared.surfaces.Side.{Side};
 ghost use Rattle.fs_gluing.specs.Polygons.{at_side};
 ghost use Rattle.fs_gluing.specs.Surface.{AreNeighbours, IsGlued};
 ghost use Rattle.fs_gluing.specs.Reached.{IsReached};
-ghost use Rattle.fs_gluing.specs.Marks.{Marks, MarksReached, partner_polygons};
-ghost use Rattle.fs_gluing.specs.FirstFault.{answer};
-ghost use Rattle.fs_gluing.specs.FirstFault.Test.{Reached};
-ghost use Rattle.fs_gluing.specs.Checks.{AnswersFirst};
+ghost use Rattle.fs_gluing.specs.SearchMarks.{MarksPolygons, AreReachedMarks, partner_polygons};
+ghost use Rattle.fs_gluing.specs.FirstFault.{stop_of};
+ghost use Rattle.fs_gluing.specs.FirstFault.Test.{polygon_reached};
+ghost use Rattle.fs_gluing.specs.TestsInOrder.{IsFirstStop};
 
 use crate::faults::{BuildStop, Fault};
 use crate::sequence::Sequence;
@@ -19,11 +22,11 @@ use std::alloc::{AllocError, Global};
 // That each polygon is reached from polygon 0 through glued sides.
 pub fn check_reached(alloc: Global, polygons: &Sequence<Sequence<Side>>) -> Result<(), BuildStop>
     requires some { 0 < length polygons.now }
-    requires few { length polygons.now ≤ 256 }
+    requires few { length polygons.now ≤ most_polygons }
     requires glued { (c : Corner) → (side : Side) → at_side polygons.now c ≡ Some side → IsGlued polygons.now c side }
     ensures passed { OnOk result (AllByRecursion (IsReached (AreNeighbours polygons.now)) (range_with_len 0 (length polygons.now))) }
     ensures failed { IfErr result (λ e. (e ≡ BuildStop.NoMemory)
-        ⊎ AnswersFirst (IsReached (AreNeighbours polygons.now)) (range_with_len 0 (length polygons.now)) (λ i. answer (Reached i)) e) }
+        ⊎ IsFirstStop (IsReached (AreNeighbours polygons.now)) (range_with_len 0 (length polygons.now)) (λ i. stop_of (polygon_reached i)) e) }
 {
     let reached = search(alloc, polygons)?;
     for (i, is_reached) in reached.iter().enumerate() {
@@ -38,7 +41,7 @@ pub fn check_reached(alloc: Global, polygons: &Sequence<Sequence<Side>>) -> Resu
 fn search(alloc: Global, polygons: &Sequence<Sequence<Side>>) -> Result<Vec<bool>, AllocError>
     requires some { 0 < length polygons.now }
     requires glued { (c : Corner) → (side : Side) → at_side polygons.now c ≡ Some side → IsGlued polygons.now c side }
-    ensures { IfOk result (λ reached. MarksReached polygons.now reached.items) }
+    ensures { IfOk result (λ reached. AreReachedMarks polygons.now reached.items) }
 {
     let mut reached = vec![in alloc; false; polygons.len()]?;
     reached[0] = true;
@@ -54,11 +57,11 @@ fn search(alloc: Global, polygons: &Sequence<Sequence<Side>>) -> Result<Vec<bool
     Ok(reached)
 }
 
-// Marks the polygons that these sides are glued to. Those that weren't marked have to wait for
-// their own visit.
+// Marks the polygons that these sides are glued to. Those that weren't marked wait for their own
+// visit.
 fn visit(sides: &[Side], reached: &mut Vec<bool>, waiting: &mut Vec<u16>) -> Result<(), AllocError>
     requires { AllByRecursion (λ side. side.partner.polygon < length reached.old.items) sides.now }
-    ensures { OnOk result (Marks (partner_polygons sides.now) reached.old.items reached.new.items waiting.old.items waiting.new.items) }
+    ensures { OnOk result (MarksPolygons (partner_polygons sides.now) reached.old.items reached.new.items waiting.old.items waiting.new.items) }
 {
     for side in sides {
         let k = side.partner.polygon;

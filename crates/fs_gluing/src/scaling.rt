@@ -1,15 +1,18 @@
+// The common denominator of a shape, and its polygons times it.
+
 ghost use Rattle.std.specs.Prelude.{◌≡◌, ◌⊎◌, ◌≤◌, ◌<◌, ◌<ℤ◌, ◌+◌, ◌*ℤ◌, ◌/◌, ◌^◌, [], ◌∷◌, Some, length, map, pos, IfOk, IfSome, OnOk, IfErr};
 ghost use Rattle.std.specs.List.{AllByRecursion};
 ghost use Rattle.std.specs.Option.{SomeIff};
 ghost use Rattle.fs_quadratic.specs.Width.{InWidth};
 ghost use Rattle.fs_fraction.specs.Fraction.{scale};
+ghost use Rattle.fs_gluing.specs.Limits.{most_polygons, most_sides};
 ghost use Rattle.fs_gluing.specs.declared.faults.BuildStop.{BuildStop};
-ghost use Rattle.fs_gluing.specs.Scaling.{common_den, common_from, common_multiple, common_tests, part_tests, placed, placed_row, scaled_vector, scale_tests, PassesScale};
-ghost use Rattle.fs_gluing.specs.Scaling.ScaleTest.{Part_fits};
+ghost use Rattle.fs_gluing.specs.Scaling.{common_den, common_from, common_multiple, common_tests, part_tests, all_numbered, numbered_sides, scaled_vector, scale_tests, PassesScale};
+ghost use Rattle.fs_gluing.specs.Scaling.ScaleTest.{part_fits};
 ghost use Rattle.fs_gluing.specs.Shape.{IsWithinLimits, polygons_of};
-ghost use Rattle.fs_gluing.specs.FirstFault.{answer};
-ghost use Rattle.fs_gluing.specs.FirstFault.Test.{Scale};
-ghost use Rattle.fs_gluing.specs.Checks.{AnswersFirst};
+ghost use Rattle.fs_gluing.specs.FirstFault.{stop_of};
+ghost use Rattle.fs_gluing.specs.FirstFault.Test.{of_scaling};
+ghost use Rattle.fs_gluing.specs.TestsInOrder.{IsFirstStop};
 
 use crate::faults::BuildStop;
 use crate::sequence::Sequence;
@@ -17,46 +20,41 @@ use crate::shapes::{Point, Shape};
 use fs_fraction::{Frac, greatest_divisor};
 use fs_plane::{Corner, Site, V2};
 use fs_quadratic::Elem;
+use fs_quadratic::width::{checked_natural_product, checked_product, signed};
 use std::alloc::Global;
 
-// The greatest number of the width.
-const GREATEST: u128 = (1 << 127) - 1;
-
-// Polygons by their side vectors, which are the true ones times one denominator.
+// Polygons by their side vectors, which are multiplied by one denominator.
 #[derive(Drop)]
 pub struct Scaled {
-    pub den: i128,
+    pub den: u128,
     pub polygons: Sequence<Sequence<V2>>,
 }
 
-// The polygons of a shape times the least common denominator of all coordinates.
+// The polygons of a shape times the common denominator of all coordinates.
 pub fn scale(alloc: Global, shape: &Shape) -> Result<Scaled, BuildStop>
     requires { IsWithinLimits shape.now }
     ensures passed { OnOk result (AllByRecursion PassesScale (scale_tests shape.now.polygons)) }
-    ensures den { IfOk result (λ s. s.den ≡ pos (common_den shape.now.polygons)) }
+    ensures den { IfOk result (λ s. s.den ≡ common_den shape.now.polygons) }
     ensures polygons { IfOk result (λ s. s.polygons ≡ polygons_of shape.now) }
-    ensures positive { IfOk result (λ s. pos 0 <ℤ s.den) }
-    ensures within { IfOk result (λ s. InWidth s.den) }
+    ensures positive { IfOk result (λ s. 0 < s.den) }
+    ensures within { IfOk result (λ s. s.den < 2 ^ 127) }
     ensures failed { IfErr result (λ e. (e ≡ BuildStop.NoMemory)
-        ⊎ AnswersFirst PassesScale (scale_tests shape.now.polygons) (λ test. answer (Scale test)) e) }
+        ⊎ IsFirstStop PassesScale (scale_tests shape.now.polygons) (λ test. stop_of (of_scaling test)) e) }
 {
     let den = common_den(&shape.polygons)?;
     let polygons = scale_polygons(alloc, den, &shape.polygons)?;
-    Ok(Scaled {
-        den: den as i128,
-        polygons,
-    })
+    Ok(Scaled { den, polygons })
 }
 
-// The least common denominator of all coordinates of the polygons.
+// The common denominator of all coordinates of the polygons.
 fn common_den(polygons: &Sequence<Sequence<Point>>) -> Result<u128, BuildStop>
-    requires few { length polygons.now ≤ 256 }
-    requires short { AllByRecursion (λ polygon. length polygon ≤ 1024) polygons.now }
-    ensures passed { OnOk result (AllByRecursion PassesScale (common_tests 1 (placed polygons.now))) }
+    requires few { length polygons.now ≤ most_polygons }
+    requires short { AllByRecursion (λ polygon. length polygon ≤ most_sides) polygons.now }
+    ensures passed { OnOk result (AllByRecursion PassesScale (common_tests 1 (all_numbered polygons.now))) }
     ensures value { IfOk result (λ den. den ≡ common_den polygons.now) }
     ensures positive { IfOk result (λ den. 0 < den) }
     ensures within { IfOk result (λ den. den < 2 ^ 127) }
-    ensures failed { IfErr result (AnswersFirst PassesScale (common_tests 1 (placed polygons.now)) (λ test. answer (Scale test))) }
+    ensures failed { IfErr result (IsFirstStop PassesScale (common_tests 1 (all_numbered polygons.now)) (λ test. stop_of (of_scaling test))) }
 {
     let mut den = 1;
     for (i, polygon) in polygons.as_slice().iter().enumerate() {
@@ -65,39 +63,32 @@ fn common_den(polygons: &Sequence<Sequence<Point>>) -> Result<u128, BuildStop>
     Ok(den)
 }
 
-// The least common multiple of m and the denominators of the polygon with the number i.
+// The common multiple of m and the denominators of the polygon with the number i.
 fn common_of_polygon(m: u128, i: u16, points: &[Point]) -> Result<u128, BuildStop>
-    requires short { length points.now ≤ 1024 }
+    requires short { length points.now ≤ most_sides }
     requires positive { 0 < m }
     requires within { m < 2 ^ 127 }
-    ensures passed { OnOk result (AllByRecursion PassesScale (common_tests m (placed_row i 0 points.now))) }
-    ensures value { IfOk result (λ den. den ≡ common_from m (placed_row i 0 points.now)) }
+    ensures passed { OnOk result (AllByRecursion PassesScale (common_tests m (numbered_sides i 0 points.now))) }
+    ensures value { IfOk result (λ den. den ≡ common_from m (numbered_sides i 0 points.now)) }
     ensures positive { IfOk result (λ den. 0 < den) }
     ensures within { IfOk result (λ den. den < 2 ^ 127) }
-    ensures failed { IfErr result (AnswersFirst PassesScale (common_tests m (placed_row i 0 points.now)) (λ test. answer (Scale test))) }
+    ensures failed { IfErr result (IsFirstStop PassesScale (common_tests m (numbered_sides i 0 points.now)) (λ test. stop_of (of_scaling test))) }
 {
     let mut den = m;
     for (j, point) in points.iter().enumerate() {
-        den = common_of_side(
-            den,
-            Corner {
-                polygon: i,
-                side: j as u16,
-            },
-            *point,
-        )?;
+        den = common_of_side(den, Corner::new(i, j as u16), *point)?;
     }
     Ok(den)
 }
 
-// The least common multiple of m and the two denominators of a side.
+// The common multiple of m and the two denominators of a side.
 fn common_of_side(m: u128, corner: Corner, point: Point) -> Result<u128, BuildStop>
     requires { 0 < m }
-    ensures passed { OnOk result (AllByRecursion PassesScale (common_tests m (placed_row corner.polygon corner.side (point ∷ [])))) }
-    ensures value { IfOk result (λ den. den ≡ common_from m (placed_row corner.polygon corner.side (point ∷ []))) }
+    ensures passed { OnOk result (AllByRecursion PassesScale (common_tests m (numbered_sides corner.polygon corner.side (point ∷ [])))) }
+    ensures value { IfOk result (λ den. den ≡ common_from m (numbered_sides corner.polygon corner.side (point ∷ []))) }
     ensures positive { IfOk result (λ den. 0 < den) }
     ensures within { IfOk result (λ den. den < 2 ^ 127) }
-    ensures failed { IfErr result (AnswersFirst PassesScale (common_tests m (placed_row corner.polygon corner.side (point ∷ []))) (λ test. answer (Scale test))) }
+    ensures failed { IfErr result (IsFirstStop PassesScale (common_tests m (numbered_sides corner.polygon corner.side (point ∷ []))) (λ test. stop_of (of_scaling test))) }
 {
     let Some(with_x) = common_multiple(m, point.x) else {
         return Err(overflow(corner, 1));
@@ -108,18 +99,15 @@ fn common_of_side(m: u128, corner: Corner, point: Point) -> Result<u128, BuildSt
     Ok(with_y)
 }
 
-// The least common multiple of m and a denominator, where it is within the width.
+// The common multiple of m and a denominator, where it is within the width.
 fn common_multiple(m: u128, x: Frac) -> Option<u128>
     requires { 0 < m }
     ensures value { SomeIff result (InWidth (pos (common_multiple m x.den))) (common_multiple m x.den) }
     ensures positive { IfSome result (λ den. 0 < den) }
     ensures within { IfSome result (λ den. den < 2 ^ 127) }
 {
-    let n = x.den().unsigned_abs();
-    match m.checked_mul(n / greatest_divisor(m, n)) {
-        Some(multiple) if multiple <= GREATEST => Some(multiple),
-        _ => None,
-    }
+    let n = x.denominator();
+    checked_natural_product(m, n / greatest_divisor(m, n))
 }
 
 // The polygons times den, a multiple of all their denominators.
@@ -129,12 +117,12 @@ fn scale_polygons(
     polygons: &Sequence<Sequence<Point>>,
 ) -> Result<Sequence<Sequence<V2>>, BuildStop>
     requires within { den < 2 ^ 127 }
-    requires few { length polygons.now ≤ 256 }
-    requires short { AllByRecursion (λ polygon. length polygon ≤ 1024) polygons.now }
-    ensures passed { OnOk result (AllByRecursion PassesScale (part_tests den (placed polygons.now))) }
+    requires few { length polygons.now ≤ most_polygons }
+    requires short { AllByRecursion (λ polygon. length polygon ≤ most_sides) polygons.now }
+    ensures passed { OnOk result (AllByRecursion PassesScale (part_tests den (all_numbered polygons.now))) }
     ensures scaled { IfOk result (λ rows. rows ≡ map (map (scaled_vector den)) polygons.now) }
     ensures failed { IfErr result (λ e. (e ≡ BuildStop.NoMemory)
-        ⊎ AnswersFirst PassesScale (part_tests den (placed polygons.now)) (λ test. answer (Scale test)) e) }
+        ⊎ IsFirstStop PassesScale (part_tests den (all_numbered polygons.now)) (λ test. stop_of (of_scaling test)) e) }
 {
     let mut rows = Sequence::new(alloc);
     for (i, polygon) in polygons.as_slice().iter().enumerate() {
@@ -151,22 +139,15 @@ fn scale_polygon(
     points: &[Point],
 ) -> Result<Sequence<V2>, BuildStop>
     requires within { den < 2 ^ 127 }
-    requires short { length points.now ≤ 1024 }
-    ensures passed { OnOk result (AllByRecursion PassesScale (part_tests den (placed_row i 0 points.now))) }
+    requires short { length points.now ≤ most_sides }
+    ensures passed { OnOk result (AllByRecursion PassesScale (part_tests den (numbered_sides i 0 points.now))) }
     ensures scaled { IfOk result (λ row. row ≡ map (scaled_vector den) points.now) }
     ensures failed { IfErr result (λ e. (e ≡ BuildStop.NoMemory)
-        ⊎ AnswersFirst PassesScale (part_tests den (placed_row i 0 points.now)) (λ test. answer (Scale test)) e) }
+        ⊎ IsFirstStop PassesScale (part_tests den (numbered_sides i 0 points.now)) (λ test. stop_of (of_scaling test)) e) }
 {
     let mut row = Sequence::new(alloc);
     for (j, point) in points.iter().enumerate() {
-        row.push(scale_side(
-            den,
-            Corner {
-                polygon: i,
-                side: j as u16,
-            },
-            *point,
-        )?)?;
+        row.push(scale_side(den, Corner::new(i, j as u16), *point)?)?;
     }
     Ok(row)
 }
@@ -174,26 +155,26 @@ fn scale_polygon(
 // The vector of a side times den.
 fn scale_side(den: u128, corner: Corner, point: Point) -> Result<V2, BuildStop>
     requires { den < 2 ^ 127 }
-    ensures passed { OnOk result (AllByRecursion PassesScale (part_tests den (placed_row corner.polygon corner.side (point ∷ [])))) }
+    ensures passed { OnOk result (AllByRecursion PassesScale (part_tests den (numbered_sides corner.polygon corner.side (point ∷ [])))) }
     ensures scaled { IfOk result (λ vector. vector ≡ scaled_vector den point) }
-    ensures failed { IfErr result (AnswersFirst PassesScale (part_tests den (placed_row corner.polygon corner.side (point ∷ []))) (λ test. answer (Scale test))) }
+    ensures failed { IfErr result (IsFirstStop PassesScale (part_tests den (numbered_sides corner.polygon corner.side (point ∷ []))) (λ test. stop_of (of_scaling test))) }
 {
     let x = scale_coordinate(den, point.x, corner, 3)?;
     let y = scale_coordinate(den, point.y, corner, 5)?;
     Ok(V2 { x, y })
 }
 
-// A coordinate times den, the places of its parts being `place` and the next.
+// A coordinate times den. The places of its two parts are `place` and the next.
 fn scale_coordinate(den: u128, x: Frac, corner: Corner, place: u32) -> Result<Elem, BuildStop>
     requires within { den < 2 ^ 127 }
     requires place { place ≤ 5 }
     ensures passed { OnOk result (AllByRecursion PassesScale
-        (Part_fits corner.polygon corner.side place (den / x.den) x.num.p
-        ∷ Part_fits corner.polygon corner.side (place + 1) (den / x.den) x.num.q ∷ [])) }
+        (part_fits corner.polygon corner.side place (den / x.den) x.num.p
+        ∷ part_fits corner.polygon corner.side (place + 1) (den / x.den) x.num.q ∷ [])) }
     ensures scaled { IfOk result (λ y. y ≡ scale (den / x.den) x.num) }
-    ensures failed { IfErr result (AnswersFirst PassesScale
-        (Part_fits corner.polygon corner.side place (den / x.den) x.num.p
-        ∷ Part_fits corner.polygon corner.side (place + 1) (den / x.den) x.num.q ∷ []) (λ test. answer (Scale test))) }
+    ensures failed { IfErr result (IsFirstStop PassesScale
+        (part_fits corner.polygon corner.side place (den / x.den) x.num.p
+        ∷ part_fits corner.polygon corner.side (place + 1) (den / x.den) x.num.q ∷ []) (λ test. stop_of (of_scaling test))) }
 {
     let factor = factor(den, x);
     let Some(p) = checked_product(factor, x.num().p()) else {
@@ -210,26 +191,12 @@ fn factor(den: u128, x: Frac) -> i128
     requires { den < 2 ^ 127 }
     ensures { result ≡ pos (den / x.den) }
 {
-    (den / x.den().unsigned_abs()) as i128
+    signed(den / x.denominator())
 }
 
-// The product, where it is within the width.
-fn checked_product(a: i128, b: i128) -> Option<i128>
-    ensures { SomeIff result (InWidth (a *ℤ b)) (a *ℤ b) }
-{
-    match a.checked_mul(b) {
-        Some(product) if product != i128::MIN => Some(product),
-        _ => None,
-    }
-}
-
-// A place of a side at which scaling leaves the width.
+// Scaling overflows at this place of a side.
 fn overflow(corner: Corner, place: u32) -> BuildStop
     ensures { result ≡ BuildStop.Overflow (Site.Scale corner.polygon corner.side place) }
 {
-    BuildStop::Overflow(Site::Scale {
-        polygon: u32::from(corner.polygon),
-        side: u32::from(corner.side),
-        place,
-    })
+    BuildStop::Overflow(Site::scaling(corner, place))
 }

@@ -1,9 +1,11 @@
+// Lists that contracts see as their items.
+
 ghost use Rattle.std.specs.Prelude.{◌≡◌, [], ◌∷◌, ◌++◌, ◌==◌, length, OnOk, OnErr};
 
 use std::alloc::{AllocError, Global};
 use std::marker::Model;
 
-/// A list that contracts see as its items, however it is kept.
+/// A list. Contracts see it as its items.
 #[derive(Drop)]
 pub struct Sequence<T> {
     items: Vec<T>,
@@ -27,14 +29,14 @@ impl<T> Sequence<T> {
         }
     }
 
-    /// The items of a vector, which it keeps.
+    /// The items of a vector. Takes no memory.
     pub fn from_vec(items: Vec<T>) -> Sequence<T>
         ensures { result ≡ items.items }
     {
         Sequence { items }
     }
 
-    /// The vector of the items, which it gives up.
+    /// The vector of the items. Takes no memory.
     pub fn into_vec(self) -> Vec<T>
         ensures { result.items ≡ self }
     {
@@ -49,6 +51,7 @@ impl<T> Sequence<T> {
         self.items.len()
     }
 
+    /// Whether there are no items.
     pub fn is_empty(&self) -> bool
         ensures { result ≡ (length self.now == 0) }
     {
@@ -64,7 +67,7 @@ impl<T> Sequence<T> {
 }
 
 impl<T: Drop> Sequence<T> {
-    /// Adds an item at the end. Where memory runs out nothing changes, and the item is dropped.
+    /// Adds an item at the end. Where memory runs out the list is unchanged and the item is dropped.
     pub fn push(&mut self, item: T) -> Result<(), AllocError>
         ensures ok { OnOk result (self.new ≡ self.old ++ item ∷ []) }
         ensures err { OnErr result (self.new ≡ self.old) }

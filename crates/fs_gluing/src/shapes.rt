@@ -1,15 +1,17 @@
+// Shapes: what a surface is built from.
+
 use crate::sequence::Sequence;
 use fs_fraction::Frac;
 use fs_plane::Corner;
 
-/// A vector of the plane in true size, as a job gives it.
+/// A vector of the plane, unscaled, as a job has it.
 #[derive(Clone, Copy, Debug, PartialEq, Eq, Hash)]
 pub struct Point {
     pub x: Frac,
     pub y: Frac,
 }
 
-/// Two sides that are glued, and the line of the job that says so.
+/// Two sides that are glued, and the number of the line of the job that glues them.
 #[derive(Clone, Copy, Debug, PartialEq, Eq, Hash)]
 pub struct Glue {
     pub line: u32,
@@ -17,8 +19,8 @@ pub struct Glue {
     pub two: Corner,
 }
 
-/// What a surface is built from: polygons, each the list of its side vectors, walked
-/// counterclockwise, and the glued pairs of sides. It may be at fault.
+/// What a surface is built from: polygons, each the list of its side vectors, counterclockwise,
+/// and the glued pairs of sides. `build` finds its faults.
 #[derive(Drop)]
 pub struct Shape {
     pub polygons: Sequence<Sequence<Point>>,

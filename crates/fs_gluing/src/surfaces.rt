@@ -1,3 +1,5 @@
+// Translation surfaces.
+
 ghost use Rattle.std.specs.Prelude.{◌≡◌, Some, length, sum_by, ◌+◌, ◌<◌, ◌↔◌, IsTrue, IfSome};
 ghost use Rattle.std.specs.List.{slice_get};
 
@@ -6,8 +8,7 @@ use fs_plane::{Corner, V2};
 use fs_quadratic::Field;
 use std::marker::Model;
 
-/// A side of a polygon: its vector, times the surface's denominator, and the side that it is
-/// glued to.
+/// A side of a polygon: its scaled vector and the side that it is glued to.
 #[derive(Clone, Copy, Debug, PartialEq, Eq, Hash)]
 pub struct Side {
     pub vector: V2,
@@ -15,22 +16,22 @@ pub struct Side {
 }
 
 /// A translation surface: polygons whose sides are glued in pairs by translations. Each polygon
-/// closes, has three sides or more, turns left at each corner and goes round once. Each side is
-/// glued to exactly one other, which has the opposite vector, and from polygon 0 glued sides lead
-/// to every polygon.
+/// has three sides or more, closes, is strictly convex at each corner and has turning number 1.
+/// Each side is glued to exactly one other, which has the opposite vector. The surface is
+/// connected: from polygon 0 glued sides lead to every polygon.
 ///
-/// All vectors and places are the true ones times one positive denominator.
+/// All vectors and positions are scaled: multiplied by one positive denominator.
 #[derive(Drop)]
 pub struct Surface {
     field: Field,
     den: i128,
     polygons: Sequence<Sequence<Side>>,
-    places: Sequence<Sequence<V2>>,
+    positions: Sequence<Sequence<V2>>,
 }
 
 impl Model for Surface {
     ghost use Rattle.std.specs.Prelude.{◌≡◌, map};
-    ghost use Rattle.fs_gluing.specs.Places.{all_places};
+    ghost use Rattle.fs_gluing.specs.Positions.{all_positions};
     ghost use Rattle.fs_gluing.specs.Surface.{GluedPolygons, IsSurface, side_vectors};
 
     ghost Value = { GluedPolygons };
@@ -38,34 +39,34 @@ impl Model for Surface {
     ghost view = { λ s. record { d = s.field.d; den = s.den; polygons = s.polygons } };
 
     ghost invariant = { λ s. IsSurface (record { d = s.field.d; den = s.den; polygons = s.polygons })
-        × (s.places ≡ all_places (map side_vectors s.polygons)) };
+        × (s.positions ≡ all_positions (map side_vectors s.polygons)) };
 }
 
 impl Surface {
     ghost use Rattle.std.specs.Prelude.{map};
     ghost use Rattle.fs_plane.specs.Vector.{vector_zero, vector_add};
-    ghost use Rattle.fs_gluing.specs.Convex.{corner_place};
-    ghost use Rattle.fs_gluing.specs.Places.{all_places, places_from};
+    ghost use Rattle.fs_gluing.specs.Convex.{corner_position};
+    ghost use Rattle.fs_gluing.specs.Positions.{all_positions, positions_from};
     ghost use Rattle.fs_gluing.specs.Polygons.{at_side, HasSide};
     ghost use Rattle.fs_gluing.specs.Surface.{IsSurface, side_vectors};
-    ghost use Rattle.fs_gluing.specs.Turning.{TurnsTo, AreOnePoint, side_before};
+    ghost use Rattle.fs_gluing.specs.NextCorner.{IsNextCorner, AreOnePoint, side_before};
 
-    /// The surface of these glued polygons, the corners of which have these places.
+    // The surface of these glued polygons, the corners of which have these positions.
     pub(crate) fn new(
         field: Field,
         den: i128,
         polygons: Sequence<Sequence<Side>>,
-        places: Sequence<Sequence<V2>>,
+        positions: Sequence<Sequence<V2>>,
     ) -> Surface
         requires surface { IsSurface (record { d = field.d; den = den; polygons = polygons }) }
-        requires places { places ≡ all_places (map side_vectors polygons) }
+        requires positions { positions ≡ all_positions (map side_vectors polygons) }
         ensures { result ≡ record { d = field.d; den = den; polygons = polygons } }
     {
         Surface {
             field,
             den,
             polygons,
-            places,
+            positions,
         }
     }
 
@@ -77,7 +78,7 @@ impl Surface {
         self.field
     }
 
-    /// The positive number by which all true vectors were multiplied.
+    /// The positive number by which all unscaled vectors were multiplied.
     pub fn den(&self) -> i128
         ensures den { result ≡ self.now.den }
         ensures surface { IsSurface self.now }
@@ -101,7 +102,7 @@ impl Surface {
         self.polygons.as_slice()[i as usize].len() as u16
     }
 
-    /// Whether there is that corner, and so the side that starts there.
+    /// Whether that corner exists, and so the side that starts there.
     pub fn has(&self, c: Corner) -> bool
         ensures { IsTrue result ↔ HasSide self.now.polygons c }
     {
@@ -111,7 +112,7 @@ impl Surface {
         }
     }
 
-    /// The vector of a side, times the denominator.
+    /// The scaled vector of a side.
     pub fn side(&self, c: Corner) -> V2
         requires { HasSide self.now.polygons c }
         ensures { IfSome (at_side self.now.polygons c) (λ side. result ≡ side.vector) }
@@ -127,39 +128,39 @@ impl Surface {
         self.at(c).partner
     }
 
-    /// The place of a corner, times the denominator, where corner 0 of its polygon is at (0,0).
+    /// The scaled position of a corner, where corner 0 of its polygon is at (0,0).
     pub fn place(&self, c: Corner) -> V2
         requires { HasSide self.now.polygons c }
-        ensures place { IfSome (slice_get self.now.polygons c.polygon) (λ polygon. result ≡ corner_place (side_vectors polygon) c.side) }
+        ensures position { IfSome (slice_get self.now.polygons c.polygon) (λ polygon. result ≡ corner_position (side_vectors polygon) c.side) }
         // Corner 0 is at (0,0), and a side leads from its corner to the next, the last one back to corner 0.
         ensures first { c.side ≡ 0 → result ≡ vector_zero }
         ensures next { IfSome (slice_get self.now.polygons c.polygon) (λ polygon. IfSome (slice_get polygon c.side) (λ side.
-            (c.side + 1 < length polygon → vector_add result side.vector ≡ corner_place (side_vectors polygon) (c.side + 1))
+            (c.side + 1 < length polygon → vector_add result side.vector ≡ corner_position (side_vectors polygon) (c.side + 1))
             × (c.side + 1 ≡ length polygon → vector_add result side.vector ≡ vector_zero))) }
     {
-        let places = self.places.as_slice()[c.polygon as usize].as_slice();
-        places[c.side as usize]
+        let positions = self.positions.as_slice()[c.polygon as usize].as_slice();
+        positions[c.side as usize]
     }
 
-    // The places of the corners of polygon i, corner 0 being at (0,0).
-    pub(crate) fn places(&self, i: u16) -> &[V2]
+    // The positions of the corners of polygon i, where corner 0 is at (0,0).
+    pub(crate) fn positions(&self, i: u16) -> &[V2]
         requires { i < length self.now.polygons }
-        ensures { IfSome (slice_get self.now.polygons i) (λ polygon. result.now ≡ places_from vector_zero (side_vectors polygon)) }
+        ensures { IfSome (slice_get self.now.polygons i) (λ polygon. result.now ≡ positions_from vector_zero (side_vectors polygon)) }
     {
-        self.places.as_slice()[i as usize].as_slice()
+        self.positions.as_slice()[i as usize].as_slice()
     }
 
     /// The next corner counterclockwise round the vertex of a corner: the start of the side that
     /// the side before the corner is glued to.
-    #[tactic(auto, using(crate::proofs::Corners::has_before))]
+    #[tactic(auto, using(crate::proofs::SurfaceCalls::NextCorner::has_before))]
     pub fn turn(&self, c: Corner) -> Corner
         requires { HasSide self.now.polygons c }
-        ensures turn { TurnsTo self.now.polygons c result }
-        // It is a permutation of the corners.
+        ensures turn { IsNextCorner self.now.polygons c result }
+        // This is a permutation of the corners.
         ensures there { HasSide self.now.polygons result }
-        ensures one_to_one { (e : Corner) → HasSide self.now.polygons e → TurnsTo self.now.polygons e result → e ≡ c }
-        ensures onto { (e : Corner) → HasSide self.now.polygons e → (b : Corner) × HasSide self.now.polygons b × TurnsTo self.now.polygons b e }
-        // It keeps the vertex.
+        ensures one_to_one { (e : Corner) → HasSide self.now.polygons e → IsNextCorner self.now.polygons e result → e ≡ c }
+        ensures onto { (e : Corner) → HasSide self.now.polygons e → (b : Corner) × HasSide self.now.polygons b × IsNextCorner self.now.polygons b e }
+        // Both corners are of one vertex.
         ensures vertex { AreOnePoint self.now.polygons c result }
     {
         // A look at a field makes the invariant of the type known here.
@@ -176,13 +177,10 @@ impl Surface {
             0 => self.sides(c.polygon) - 1,
             side => side - 1,
         };
-        Corner {
-            polygon: c.polygon,
-            side,
-        }
+        Corner::new(c.polygon, side)
     }
 
-    // What stands at a side.
+    // The side that starts at a corner.
     fn at(&self, c: Corner) -> Side
         requires { HasSide self.now.polygons c }
         ensures { at_side self.now.polygons c ≡ Some result }

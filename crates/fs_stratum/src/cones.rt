@@ -1,14 +1,16 @@
+// The vertices of a surface with their cone numbers, and the genus.
+
 ghost use Rattle.std.specs.Prelude.{◌≡◌, ◌+◌, ◌<◌, ℕ, List, IfOk, OnOk, length, false};
 ghost use Rattle.fs_plane.specs.declared.corners.Corner.{Corner};
 ghost use Rattle.fs_gluing.specs.Polygons.{HasSide};
 ghost use Rattle.fs_gluing.specs.Surface.{GluedPolygons, IsSurface};
 ghost use Rattle.fs_gluing.specs.Vertices.{AreOneVertex, IsConeNumber};
-ghost use Rattle.fs_stratum.specs.Cones.{AreCones, HasGenus};
-ghost use Rattle.fs_stratum.specs.Found.{AreFoundBefore};
-ghost use Rattle.fs_stratum.specs.Marks.{is_marked, Covers, MarksVertex};
+ghost use Rattle.fs_stratum.specs.VertexList.{AreVertices, HasGenus};
+ghost use Rattle.fs_stratum.specs.VerticesFound.{AreFoundBefore};
+ghost use Rattle.fs_stratum.specs.CornerMarks.{is_marked, Covers, MarksVertex};
 ghost use Rattle.fs_stratum.specs.declared.cones.Cone.{Cone};
 
-use crate::marks::Marks;
+use crate::corner_marks::CornerMarks;
 use fs_fraction::NoMemory;
 use fs_gluing::{Sequence, Surface};
 use fs_plane::Corner;
@@ -25,11 +27,11 @@ pub struct Cone {
 ///
 /// Every k is at least 1, and the sum of k - 1 is 2g - 2 for the genus g.
 pub fn classes(alloc: Global, surface: &Surface) -> Result<Sequence<Cone>, NoMemory>
-    ensures cones { IfOk result (λ cones. AreCones surface.now cones) }
+    ensures cones { IfOk result (λ cones. AreVertices surface.now cones) }
     ensures genus { IfOk result (λ cones. (g : ℕ) × HasGenus surface.now cones g) }
     ensures surface { OnOk result (IsSurface surface.now) }
 {
-    let mut marks = Marks::new(alloc, surface)?;
+    let mut marks = CornerMarks::new(alloc, surface)?;
     let mut cones = Sequence::new(alloc);
     for i in 0..surface.polygons() {
         add_cones(surface, i, &mut marks, &mut cones)?;
@@ -41,7 +43,7 @@ pub fn classes(alloc: Global, surface: &Surface) -> Result<Sequence<Cone>, NoMem
 fn add_cones(
     surface: &Surface,
     i: u16,
-    marks: &mut Marks,
+    marks: &mut CornerMarks,
     cones: &mut Sequence<Cone>,
 ) -> Result<(), AllocError>
     requires surface { IsSurface surface.now }
@@ -50,21 +52,18 @@ fn add_cones(
     ensures { OnOk result (AreFoundBefore surface.now (record { polygon = i + 1; side = 0 }) marks.new cones.new) }
 {
     for j in 0..surface.sides(i) {
-        let first = Corner {
-            polygon: i,
-            side: j,
-        };
+        let first = Corner::new(i, j);
         if !marks.has(first) {
-            let k = go_round(surface, first, marks);
+            let k = mark_vertex(surface, first, marks);
             cones.push(Cone { first, k })?;
         }
     }
     Ok(())
 }
 
-// Marks the corners of a vertex, and counts those that hold (1,0): where the side that begins
-// there isn't raised, and the one at the next corner is.
-fn go_round(surface: &Surface, first: Corner, marks: &mut Marks) -> u32
+// Marks the corners of a vertex, and counts those whose sector holds (1,0): where the side that
+// begins there isn't raised and the one that begins at the next corner is.
+fn mark_vertex(surface: &Surface, first: Corner, marks: &mut CornerMarks) -> u32
     requires there { HasSide surface.now.polygons first }
     requires covers { Covers surface.now.polygons marks.old }
     requires fresh { (e : Corner) → AreOneVertex surface.now.polygons first e → is_marked marks.old e ≡ false }
@@ -85,10 +84,10 @@ fn go_round(surface: &Surface, first: Corner, marks: &mut Marks) -> u32
     k
 }
 
-/// The genus of whatever surface has these vertices: 1 plus half the sum of k - 1.
+/// The genus of a surface with these vertices: 1 plus half the sum of k - 1.
 pub fn genus(cones: &[Cone]) -> u32
-    requires { (s : GluedPolygons) × IsSurface s × AreCones s cones.now }
-    ensures { (s : GluedPolygons) → IsSurface s → AreCones s cones.now → HasGenus s cones.now result }
+    requires { (s : GluedPolygons) × IsSurface s × AreVertices s cones.now }
+    ensures { (s : GluedPolygons) → IsSurface s → AreVertices s cones.now → HasGenus s cones.now result }
 {
     let mut twice = 2;
     for cone in cones {

@@ -2,6 +2,6 @@
 #![tactic(auto)]
 
 mod cones;
-mod marks;
+mod corner_marks;
 
 pub use cones::{Cone, classes, genus};

@@ -1,8 +1,8 @@
--- The sum is refused where it leaves the width.
-use Rattle.fs_gluing.proofs.AreaSums.{triangle, triangle_stops}
+-- Where the sum overflows, the site is that of place 4.
+use Rattle.fs_gluing.proofs.SurfaceCalls.AreaSums.{triangle, triangle_stops}
 use Rattle.fs_gluing.proofs.areas.add_triangle.Goals as goal
 
 pub returns-in-Err-add : goal.returns-in-Err-add
 returns-in-Err-add c =
     triangle_stops c.args.field.d c.args.sum c.in-Ok.part (triangle c.args.corner.polygon c.args.corner.side c.args.one c.args.two)
-    c.from-polygon.result c.from-side.result c.from-polygon.ensures c.from-side.ensures c.in-Ok.ensures c.in-Err-add.ensures.sum
+    c.triangle.result c.triangle.ensures c.in-Ok.ensures c.in-Err-add.ensures.sum

@@ -1,8 +1,10 @@
+-- A glue line passes its three tests, or fails the first of them that it can fail.
 use Rattle.std.proofs.Common.{sym, ◌∙◌}
 use Rattle.std.specs.BTreeMap.{get}
 use Rattle.fs_gluing.specs.Gluing.{corner_cmp}
-use Rattle.fs_gluing.proofs.Vectors.{one_corner, two_corners, differ_from_ne, same_from_ne}
-use Rattle.fs_gluing.proofs.Lines.{there_by, absent_one, absent_two, absent_fails, twice_fails, opposite_fails, line_passes, single_by, not_single_one, not_single_two, are_opposite, vectors_opposite, not_some}
+use Rattle.fs_gluing.proofs.Base.Equality.{one_corner, two_corners, differ_from_ne, same_from_ne}
+use Rattle.fs_gluing.proofs.Gluing.GlueLines.{sides_exist_by, absent_one, absent_two, absent_fails, twice_fails, opposite_fails, line_passes, glued_once_by, one_glued_before, two_glued_before, are_opposite, vectors_opposite}
+use Rattle.fs_lists.proofs.Items.{not_some}
 use Rattle.fs_gluing.proofs.glue_lines.check_glue.Goals as goal
 use Rattle.fs_gluing.proofs.glue_lines.check_glue.Goals.{then-eq-via-then-eq, then-eq-via-else-eq+then-contains_key, then-eq-via-else-eq+else-contains_key+then-contains_key-2}
 
@@ -16,21 +18,21 @@ returns-in_default-2-clause-failed c = λ earlier a.
 
 pub returns-then-eq-clause-failed : goal.returns-then-eq-clause-failed
 returns-then-eq-clause-failed c = λ earlier a.
-    let present = there_by c.args.polygons.now c.args.glue.now c.in-Some-Some.one c.in-Some-Some.two (sym c.vector_at.ensures ∙ c.in-Some-Some.is-0) (sym c.vector_at-2.ensures ∙ c.in-Some-Some.is-1) in
+    let present = sides_exist_by c.args.polygons.now c.args.glue.now c.in-Some-Some.one c.in-Some-Some.two (sym c.vector_at.ensures ∙ c.in-Some-Some.is-0) (sym c.vector_at-2.ensures ∙ c.in-Some-Some.is-1) in
     twice_fails c.args.polygons.now earlier c.args.glue.now present (elim c.then-eq.branch [
       | then-eq-via-then-eq w ↦ λ single. single.0 (one_corner c.args.glue.now.one c.args.glue.now.two c.eq.result c.eq.ensures w.if-eq.true)
       | then-eq-via-else-eq+then-contains_key w ↦
-          not_single_one c.args.polygons.now earlier c.args.glue.now (get corner_cmp c.args.partners.now) a (sym w.contains_key.ensures ∙ w.if-contains_key.true)
+          one_glued_before c.args.polygons.now earlier c.args.glue.now (get corner_cmp c.args.partners.now) a (sym w.contains_key.ensures ∙ w.if-contains_key.true)
       | then-eq-via-else-eq+else-contains_key+then-contains_key-2 w ↦
-          not_single_two c.args.polygons.now earlier c.args.glue.now (get corner_cmp c.args.partners.now) a (sym w.contains_key-else-contains_key.ensures ∙ w.if-contains_key-2.true)
+          two_glued_before c.args.polygons.now earlier c.args.glue.now (get corner_cmp c.args.partners.now) a (sym w.contains_key-else-contains_key.ensures ∙ w.if-contains_key-2.true)
     ])
 
 pub returns-then-ne-clause-failed : goal.returns-then-ne-clause-failed
 returns-then-ne-clause-failed c = λ earlier a.
     let is_one = sym c.vector_at.ensures ∙ c.in-Some-Some.is-0 in
     let is_two = sym c.vector_at-2.ensures ∙ c.in-Some-Some.is-1 in
-    let present = there_by c.args.polygons.now c.args.glue.now c.in-Some-Some.one c.in-Some-Some.two is_one is_two in
-    let single = single_by c.args.polygons.now earlier c.args.glue.now (get corner_cmp c.args.partners.now) a
+    let present = sides_exist_by c.args.polygons.now c.args.glue.now c.in-Some-Some.one c.in-Some-Some.two is_one is_two in
+    let single = glued_once_by c.args.polygons.now earlier c.args.glue.now (get corner_cmp c.args.partners.now) a
     (two_corners c.args.glue.now.one c.args.glue.now.two c.eq.result c.eq.ensures c.if-eq.false)
     (not_some _ (sym c.contains_key.ensures ∙ c.if-contains_key.false)) (not_some _ (sym c.contains_key-else-contains_key.ensures ∙ c.if-contains_key-2.false)) in
     let apart = differ_from_ne c.in-Some-Some.two c.neg.result c.ne.result c.ne.ensures c.if-ne.true in
@@ -41,8 +43,8 @@ pub returns-clause-passed : goal.returns-clause-passed
 returns-clause-passed c = λ earlier a.
     let is_one = sym c.vector_at.ensures ∙ c.in-Some-Some.is-0 in
     let is_two = sym c.vector_at-2.ensures ∙ c.in-Some-Some.is-1 in
-    let present = there_by c.args.polygons.now c.args.glue.now c.in-Some-Some.one c.in-Some-Some.two is_one is_two in
-    let single = single_by c.args.polygons.now earlier c.args.glue.now (get corner_cmp c.args.partners.now) a
+    let present = sides_exist_by c.args.polygons.now c.args.glue.now c.in-Some-Some.one c.in-Some-Some.two is_one is_two in
+    let single = glued_once_by c.args.polygons.now earlier c.args.glue.now (get corner_cmp c.args.partners.now) a
     (two_corners c.args.glue.now.one c.args.glue.now.two c.eq.result c.eq.ensures c.if-eq.false)
     (not_some _ (sym c.contains_key.ensures ∙ c.if-contains_key.false)) (not_some _ (sym c.contains_key-else-contains_key.ensures ∙ c.if-contains_key-2.false)) in
     let same = same_from_ne c.in-Some-Some.two c.neg.result c.ne.result c.ne.ensures c.if-ne.false in

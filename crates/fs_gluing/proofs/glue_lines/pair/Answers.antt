@@ -1,4 +1,5 @@
-use Rattle.fs_gluing.proofs.Pairs.{partners_more}
+-- The two sides on a line become partners.
+use Rattle.fs_gluing.proofs.Gluing.Partners.{partners_more}
 use Rattle.fs_gluing.proofs.glue_lines.pair.Goals as goal
 
 pub returns : goal.returns

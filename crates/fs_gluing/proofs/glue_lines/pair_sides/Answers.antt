@@ -1,20 +1,21 @@
+-- The lines are tested one after another, up to the first that fails.
 use Rattle.std.proofs.Common.{◌≡◌, ◌⊎◌, inr, [], take, refl}
 use Rattle.std.specs.BTreeMap.{get}
 use Rattle.std.specs.Result.{IfErr}
 use Rattle.fs_gluing.specs.declared.faults.BuildStop.{BuildStop}
 use Rattle.fs_gluing.specs.declared.faults.BuildStop.TheVariants.{NoMemory}
 use Rattle.fs_gluing.specs.FirstFault.{PassesLine, line_tests}
-use Rattle.fs_gluing.specs.Checks.{AnswersFirst}
+use Rattle.fs_gluing.specs.TestsInOrder.{IsFirstStop}
 use Rattle.fs_gluing.specs.Gluing.{corner_cmp}
-use Rattle.fs_gluing.proofs.Checks.{at_exit}
-use Rattle.fs_gluing.proofs.Items.{item_of}
-use Rattle.fs_gluing.proofs.Lines.{no_glue, answer_line, lines_more, line_fails}
+use Rattle.fs_lists.proofs.Results.{at_exit}
+use Rattle.fs_lists.proofs.Items.{item_of}
+use Rattle.fs_gluing.proofs.Gluing.GlueLines.{no_glue, line_stop, lines_more, line_fails}
 use Rattle.fs_gluing.proofs.glue_lines.pair_sides.Goals as goal
 
 pub returns-in_err-check_glue-clause-failed : goal.returns-in_err-check_glue-clause-failed
 returns-in_err-check_glue-clause-failed c =
     let item = item_of c.args.glues.now c.args.glues.now c.loop-glue.glue-index no_glue refl c.loop-glue-test.true in
-    let Stops : BuildStop → Type 0 = λ e. (e ≡ NoMemory) ⊎ AnswersFirst (PassesLine c.args.polygons.now) (line_tests [] c.args.glues.now) answer_line e in
+    let Stops : BuildStop → Type 0 = λ e. (e ≡ NoMemory) ⊎ IsFirstStop (PassesLine c.args.polygons.now) (line_tests [] c.args.glues.now) line_stop e in
     at_exit (λ r. IfErr r Stops) c.from_residual.result c.in_err-check_glue.field-0.0 c.from_residual.ensures.1
     (inr (line_fails c.args.polygons.now c.args.glues.now c.loop-glue.glue-index _ (get corner_cmp c.loop-glue.partners) _ item c.loop-glue.invariant
     (c.in_err-check_glue.ensures.failed (take c.loop-glue.glue-index c.args.glues.now) c.loop-glue.invariant.partners)))

@@ -1,20 +1,20 @@
+-- A corner passes, is not strictly convex, or its cross product overflows.
 use Rattle.std.proofs.Common.{sym, ◌∙◌}
-use Rattle.fs_gluing.proofs.Bends.{greater_from_eq, not_greater_from_eq, corner_turns, corner_straight, corner_stops}
+use Rattle.fs_gluing.proofs.Polygon.ConvexCorners.{greater_from_eq, not_greater_from_eq, corner_passes, corner_not_convex, corner_overflows}
 use Rattle.fs_gluing.proofs.polygons.check_corner.Goals as goal
 
 pub returns-in-Ok-clause-passed : goal.returns-in-Ok-clause-passed
 returns-in-Ok-clause-passed c = λ sides.
-    corner_turns c.args.field.d sides c.args.corner.side (record { before = c.args.before; after = c.args.after }) c.in-Ok.turn c.args.field.radicand
+    corner_passes c.args.field.d sides c.args.corner.side (record { before = c.args.before; after = c.args.after }) c.in-Ok.product c.args.field.radicand
     (sym c.cross.ensures ∙ c.in-Ok.is) (sym c.sign.ensures ∙ greater_from_eq c.sign.result c.eq.result c.eq.ensures c.if-eq.true)
 
 pub returns-in-Ok-2-clause-failed : goal.returns-in-Ok-2-clause-failed
 returns-in-Ok-2-clause-failed c = λ sides.
-    corner_straight c.args.field.d sides c.args.corner.side (record { before = c.args.before; after = c.args.after }) c.args.corner.polygon c.in-Ok.turn
+    corner_not_convex c.args.field.d sides c.args.corner.side (record { before = c.args.before; after = c.args.after }) c.args.corner.polygon c.in-Ok.product
     (sym c.cross.ensures ∙ c.in-Ok.is) (λ is. not_greater_from_eq c.sign.result c.eq.result c.eq.ensures c.if-eq.false (c.sign.ensures ∙ is))
 
 pub returns-in-Err-clause-failed : goal.returns-in-Err-clause-failed
 returns-in-Err-clause-failed c = λ sides.
     let stopped = sym c.cross.ensures ∙ c.in-Err.is in
-    corner_stops c.args.field.d sides c.args.corner.side (record { before = c.args.before; after = c.args.after })
-    c.args.corner.polygon c.from.result c.from-in-Err.result c.in-Err.field-0.0 c.from.ensures c.from-in-Err.ensures
-    stopped
+    corner_overflows c.args.field.d sides c.args.corner.side (record { before = c.args.before; after = c.args.after })
+    c.args.corner.polygon c.in-Err.field-0.0 c.convexity.result c.convexity.ensures stopped

@@ -1,6 +1,6 @@
--- The marks in the order of the polygons.
+-- The marks are read in the order of the polygons.
 use Rattle.std.proofs.Common.{inr}
-use Rattle.fs_gluing.proofs.Search.{reached_none, reached_more, apart_first}
+use Rattle.fs_gluing.proofs.Gluing.Search.{reached_none, reached_more, apart_first}
 use Rattle.fs_gluing.proofs.reaching.check_reached.Goals as goal
 
 pub loop-i-init : goal.loop-i-init

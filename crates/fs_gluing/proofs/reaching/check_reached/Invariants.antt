@@ -1,6 +1,7 @@
+-- The polygons before i are reached.
 use Rattle.std.proofs.Common.{◌-◌, length}
 use Rattle.std.specs.List.{range_with_len}
-use Rattle.fs_gluing.specs.Checks.{PassesBefore}
+use Rattle.fs_gluing.specs.TestsInOrder.{PassesBefore}
 use Rattle.fs_gluing.specs.Reached.{IsReached}
 use Rattle.fs_gluing.specs.Surface.{AreNeighbours}
 use Rattle.fs_gluing.proofs.reaching.check_reached.Given as goal

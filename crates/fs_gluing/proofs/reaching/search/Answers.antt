@@ -1,7 +1,7 @@
--- The polygons that wait, one after another.
+-- The polygons that wait are visited one after another.
 use Rattle.std.proofs.Common.{◌<◌, List, length, sym, subst}
 use Rattle.fs_gluing.specs.declared.surfaces.Side.{Side}
-use Rattle.fs_gluing.proofs.Search.{search_begins, waits_inside, waiting_polygon, partners_inside, search_falls, search_more, search_all}
+use Rattle.fs_gluing.proofs.Gluing.Search.{search_begins, waits_inside, waiting_polygon, partners_inside, search_falls, search_more, search_all}
 use Rattle.fs_gluing.proofs.reaching.search.Goals as goal
 
 pub loop-i-init : goal.loop-i-init

@@ -1,5 +1,6 @@
+-- The marked polygons are reached, and those that wait are marked; a visit lowers the number of polygons that wait plus that of polygons without a mark.
 use Rattle.std.proofs.Common.{length, ◌+◌, not, count_by}
-use Rattle.fs_gluing.proofs.Search.{Searches}
+use Rattle.fs_gluing.proofs.Gluing.Search.{Searches}
 use Rattle.fs_gluing.proofs.reaching.search.Given as goal
 
 abbrev pub invariant-loop-i : goal.invariant-loop-i

@@ -1,6 +1,6 @@
--- The sides one after another.
+-- The sides are visited one after another.
 use Rattle.std.proofs.Common.{◌∙◌, ap}
-use Rattle.fs_gluing.proofs.Search.{visit_seen, visit_new}
+use Rattle.fs_gluing.proofs.Gluing.Search.{visit_seen, visit_new}
 use Rattle.fs_gluing.proofs.reaching.visit.Goals as goal
 use Rattle.fs_gluing.proofs.reaching.visit.Goals.{then-not-index+in_ok-push, else-not-index}
 

@@ -1,4 +1,5 @@
-use Rattle.fs_gluing.proofs.EachSide.{x_den_fails, y_den_fails}
+-- The denominator of x comes first, then that of y.
+use Rattle.fs_gluing.proofs.Scale.ScalingInTurn.{x_den_fails, y_den_fails}
 use Rattle.fs_gluing.proofs.scaling.common_of_side.Goals as goal
 
 pub returns-in_default-clause-failed : goal.returns-in_default-clause-failed

@@ -1,4 +1,5 @@
-use Rattle.fs_stratum.specs.Found.{AreFoundBefore}
+-- The vertices with a corner before side j of polygon i are found.
+use Rattle.fs_stratum.specs.VerticesFound.{AreFoundBefore}
 use Rattle.fs_stratum.proofs.cones.add_cones.Given as goal
 
 abbrev pub invariant-loop-j : goal.invariant-loop-j

@@ -1,4 +1,5 @@
-use Rattle.fs_stratum.specs.Found.{AreFoundBefore}
+-- The vertices with a corner before polygon i are found.
+use Rattle.fs_stratum.specs.VerticesFound.{AreFoundBefore}
 use Rattle.fs_stratum.proofs.cones.classes.Given as goal
 
 abbrev pub invariant-loop-i : goal.invariant-loop-i

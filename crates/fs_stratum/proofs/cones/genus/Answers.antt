@@ -1,17 +1,17 @@
--- What is counted is the genus of these vertices, which have one.
+-- The count is the genus of these vertices.
 use Rattle.std.proofs.Common.{◌≡◌, ◌/◌, sum_by, refl, ap, subst, arith}
 use Rattle.std.proofs.lemmas.List.{take_all}
 use Rattle.fs_stratum.specs.declared.cones.Cone.{Cone}
-use Rattle.fs_stratum.specs.Cones.{HasGenus}
-use Rattle.fs_stratum.proofs.SomeGenus.{genus_of_cones}
+use Rattle.fs_stratum.specs.VertexList.{HasGenus}
+use Rattle.fs_stratum.proofs.GenusExists.{genus_exists}
 use Rattle.fs_stratum.proofs.cones.genus.Goals as goal
 
 pub loop-cone-init : goal.loop-cone-init
-loop-cone-init c = let s = c.requires in (refl, (s.0, s.1, genus_of_cones s.0 s.1 c.args.cones.now s.2))
+loop-cone-init c = let s = c.requires in (refl, (s.0, s.1, genus_exists s.0 s.1 c.args.cones.now s.2))
 
 pub returns : goal.returns
 returns c s surface are =
-    let found = genus_of_cones s surface c.args.cones.now are in
+    let found = genus_exists s surface c.args.cones.now are in
     let sum = found.1.sum in
     let counted = c.loop-cone.invariant.0 in
     let all = ap (sum_by (λ (cone : Cone). cone.k)) (take_all c.loop-cone.cone-index c.args.cones.now c.loop-cone-test.false) in

@@ -1,8 +1,8 @@
--- As much as is gone through is counted, of vertices that have a genus.
+-- The count so far is that of the vertices before index i, and the vertices have a genus.
 use Rattle.std.proofs.Common.{◌≡◌, ℕ, ◌+◌, take, sum_by}
 use Rattle.fs_gluing.specs.Surface.{GluedPolygons, IsSurface}
 use Rattle.fs_stratum.specs.declared.cones.Cone.{Cone}
-use Rattle.fs_stratum.specs.Cones.{HasGenus}
+use Rattle.fs_stratum.specs.VertexList.{HasGenus}
 use Rattle.fs_stratum.proofs.cones.genus.Given as goal
 
 abbrev pub invariant-loop-cone : goal.invariant-loop-cone

@@ -1,21 +1,21 @@
--- The places that are kept are those of the corners.
+-- The stored positions are those of the corners.
 use Rattle.std.proofs.Common.{subst}
 use Rattle.fs_gluing.specs.Surface.{IsSurface}
-use Rattle.fs_gluing.proofs.Corners.{stands_in}
-use Rattle.fs_gluing.proofs.Places.{row_read, row_long, is_placed, place_is, first_place, next_place}
+use Rattle.fs_gluing.proofs.SurfaceCalls.NextCorner.{in_polygon}
+use Rattle.fs_gluing.proofs.SurfaceCalls.Positions.{row_read, row_long, is_position, position_is, first_position, next_position}
 use Rattle.fs_gluing.proofs.surfaces.Surface.place.Goals as goal
 
-pub bounds-places-c : goal.bounds-places-c
-bounds-places-c c =
-    row_long c.args.self.now.polygons c.args.c c.as_slice-places.result.now (stands_in c.args.self.now.polygons c.args.c c.requires)
-    (row_read _ _ _ _ _ _ _ c.self.view_is c.self.invariant.1 c.as_slice.ensures c.index-as_slice-c.is c.as_slice-places.ensures)
+pub bounds-positions-c : goal.bounds-positions-c
+bounds-positions-c c =
+    row_long c.args.self.now.polygons c.args.c c.as_slice-positions.result.now (in_polygon c.args.self.now.polygons c.args.c c.requires)
+    (row_read _ _ _ _ _ _ _ c.self.view_is c.self.invariant.1 c.as_slice.ensures c.index-as_slice-c.is c.as_slice-positions.ensures)
 
 pub returns : goal.returns
 returns c =
-    let row = row_read _ _ _ _ _ _ _ c.self.view_is c.self.invariant.1 c.as_slice.ensures c.index-as_slice-c.is c.as_slice-places.ensures in
-    let placed = is_placed c.args.self.now.polygons c.args.c c.as_slice-places.result.now c.index-places-c.result (stands_in c.args.self.now.polygons c.args.c c.requires) row c.index-places-c.is in
+    let row = row_read _ _ _ _ _ _ _ c.self.view_is c.self.invariant.1 c.as_slice.ensures c.index-as_slice-c.is c.as_slice-positions.ensures in
+    let position = is_position c.args.self.now.polygons c.args.c c.as_slice-positions.result.now c.index-positions-c.result (in_polygon c.args.self.now.polygons c.args.c c.requires) row c.index-positions-c.is in
     record {
-      place = place_is c.args.self.now.polygons c.args.c c.index-places-c.result placed;
-      first = first_place c.args.self.now.polygons c.args.c c.index-places-c.result placed;
-      next = next_place c.args.self.now c.args.c c.index-places-c.result (subst IsSurface c.self.view_is c.self.invariant.0) placed;
+      position = position_is c.args.self.now.polygons c.args.c c.index-positions-c.result position;
+      first = first_position c.args.self.now.polygons c.args.c c.index-positions-c.result position;
+      next = next_position c.args.self.now c.args.c c.index-positions-c.result (subst IsSurface c.self.view_is c.self.invariant.0) position;
     }

@@ -1,0 +1,3 @@
+-- A shape is scaled.
+pub mod ScalingInTurn
+pub mod ScaledVectors

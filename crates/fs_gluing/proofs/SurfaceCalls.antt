@@ -1,0 +1,4 @@
+-- What the calls on a surface return.
+pub mod NextCorner
+pub mod Positions
+pub mod AreaSums

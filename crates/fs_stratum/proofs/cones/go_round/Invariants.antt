@@ -1,8 +1,0 @@
-use Rattle.fs_stratum.proofs.Rounds.{Rounds, unmarked}
-use Rattle.fs_stratum.proofs.cones.go_round.Given as goal
-
-abbrev pub invariant-loop-field : goal.invariant-loop-field
-invariant-loop-field l = Rounds l.surface l.fn.first l.initial.marks l.marks l.corner l.k
-
-abbrev pub decreases-loop-field : goal.decreases-loop-field
-decreases-loop-field l = unmarked l.surface.polygons l.marks
