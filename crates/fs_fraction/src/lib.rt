@@ -8,10 +8,6 @@ mod fraction;
 mod memory;
 mod number;
 mod spelling;
-#[cfg(test)]
-mod spelling_tests;
-#[cfg(test)]
-mod tests;
 mod value;
 mod width;
 mod written;

@@ -4,8 +4,6 @@
 mod corners;
 mod formulas;
 mod sites;
-#[cfg(test)]
-mod tests;
 mod vector;
 
 pub use corners::Corner;

@@ -6,8 +6,6 @@ mod element;
 mod order;
 mod product;
 mod radicand;
-#[cfg(test)]
-mod tests;
 pub mod width;
 
 pub use element::{Elem, Op};

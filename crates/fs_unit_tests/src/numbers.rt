@@ -1,9 +1,9 @@
-use crate::{Elem, Field, Op};
+// Fields, and signs, products and comparisons of numbers. Expected values were computed with whole
+// numbers of any size, by squares.
+use crate::common::{Pair, elem, field};
+use fs_quadratic::{Elem, Field, Op};
 use std::cmp::Ordering;
 use std::process::Abort;
-use std::test::Fail;
-
-// Expected values of these tables were computed with whole numbers of any size, by squares.
 
 // d, p above 0, q below 0, and the sign of p + q·√d: mostly convergents of √d and what is beside them.
 const NEAR_TIES: [(u16, i128, i128, Ordering); 44] = [
@@ -236,7 +236,7 @@ const NEAR_TIES: [(u16, i128, i128, Ordering); 44] = [
 
 // d, the parts of two numbers, and those of their product where it is given: each of the seven
 // numbers at the edge of the width, and just outside.
-type Product = (u16, (i128, i128), (i128, i128), Option<(i128, i128)>);
+type Product = (u16, Pair, Pair, Option<Pair>);
 
 const PRODUCTS: [Product; 24] = [
     (
@@ -378,7 +378,7 @@ const PRODUCTS: [Product; 24] = [
 ];
 
 // d, the parts of two numbers, and how they compare: mostly with a difference beyond 128 bits.
-const COMPARISONS: [(u16, (i128, i128), (i128, i128), Ordering); 26] = [
+const COMPARISONS: [(u16, Pair, Pair, Ordering); 26] = [
     (
         2,
         (
@@ -669,56 +669,48 @@ const COMPARISONS: [(u16, (i128, i128), (i128, i128), Ordering); 26] = [
     ),
 ];
 
-fn elem(rt: &impl Abort, p: i128, q: i128) -> Elem {
-    assert!(rt; p != i128::MIN);
-    assert!(rt; q != i128::MIN);
-    Elem::new(p, q)
+// That the number has this sign.
+fn expect_sign(rt: &impl Abort, field: Field, x: Elem, expected: Ordering) {
+    assert_eq!(rt; field.sign(x), expected, "of {x:?} at {field:?}");
 }
 
 #[test]
-fn signs_near_a_tie(rt: HostRuntime) -> Result<(), Fail> {
+fn signs_near_a_tie(rt: HostRuntime) {
     for (d, p, q, sign) in NEAR_TIES {
-        let field = Field::new(d)?;
-        let x = elem(&rt, p, q);
+        let field = field(&rt, d);
+        let x = elem(&rt, (p, q));
         let y = x.neg();
-        let cases = [
-            (x, sign),
-            (y, sign.reverse()),
-            (Elem::new(x.p(), y.q()), Ordering::Greater),
-            (Elem::new(y.p(), x.q()), Ordering::Less),
-            (Elem::new(x.p(), 0), Ordering::Greater),
-            (Elem::new(y.p(), 0), Ordering::Less),
-            (Elem::new(0, y.q()), Ordering::Greater),
-            (Elem::new(0, x.q()), Ordering::Less),
-            (Elem::ZERO, Ordering::Equal),
-        ];
-        for (z, expected) in cases {
-            assert_eq!(rt; field.sign(z), expected, "of {z:?} at {d}");
-        }
+        expect_sign(&rt, field, x, sign);
+        expect_sign(&rt, field, y, sign.reverse());
+        expect_sign(&rt, field, Elem::new(x.p(), y.q()), Ordering::Greater);
+        expect_sign(&rt, field, Elem::new(y.p(), x.q()), Ordering::Less);
+        expect_sign(&rt, field, Elem::new(x.p(), 0), Ordering::Greater);
+        expect_sign(&rt, field, Elem::new(y.p(), 0), Ordering::Less);
+        expect_sign(&rt, field, Elem::new(0, y.q()), Ordering::Greater);
+        expect_sign(&rt, field, Elem::new(0, x.q()), Ordering::Less);
     }
-    Ok(())
+    expect_sign(&rt, field(&rt, 2), Elem::ZERO, Ordering::Equal);
 }
 
 #[test]
-fn products_at_the_edge(rt: HostRuntime) -> Result<(), Fail> {
+fn products_at_the_edge(rt: HostRuntime) {
     for (d, x, y, product) in PRODUCTS {
-        let field = Field::new(d)?;
+        let field = field(&rt, d);
         let expected = match product {
-            Some((p, q)) => Ok(elem(&rt, p, q)),
+            Some(parts) => Ok(elem(&rt, parts)),
             None => Err(Op::Mul),
         };
-        let (x, y) = (elem(&rt, x.0, x.1), elem(&rt, y.0, y.1));
+        let (x, y) = (elem(&rt, x), elem(&rt, y));
         assert_eq!(rt; field.mul(x, y), expected, "{x:?} times {y:?} at {d}");
         assert_eq!(rt; field.mul(y, x), expected, "{y:?} times {x:?} at {d}");
     }
-    Ok(())
 }
 
 #[test]
-fn comparisons_of_distant_numbers(rt: HostRuntime) -> Result<(), Fail> {
+fn comparisons_of_distant_numbers(rt: HostRuntime) {
     for (d, x, y, expected) in COMPARISONS {
-        let field = Field::new(d)?;
-        let (x, y) = (elem(&rt, x.0, x.1), elem(&rt, y.0, y.1));
+        let field = field(&rt, d);
+        let (x, y) = (elem(&rt, x), elem(&rt, y));
         assert_eq!(rt; field.cmp(x, y), expected, "{x:?} and {y:?} at {d}");
         assert_eq!(rt;
             field.cmp(y, x),
@@ -726,7 +718,6 @@ fn comparisons_of_distant_numbers(rt: HostRuntime) -> Result<(), Fail> {
             "{y:?} and {x:?} at {d}"
         );
     }
-    Ok(())
 }
 
 #[test]

@@ -1,9 +1,9 @@
-use crate::tests::{Parts, frac};
-use crate::{NoMemory, NumberFault, print_number, read_number};
+// Numbers as texts, as they are read and as they are printed.
+use crate::common::{Parts, frac};
+use fs_fraction::{NoMemory, NumberFault, print_number, read_number};
 use std::alloc::Global;
-use std::test::Fail;
 
-// Texts, each with the one spelling of the number that it spells, or with the fault by which it is
+// Texts, each with the one spelling of the number that it spells, or with the fault for which it is
 // refused.
 static NUMBERS: [(&str, &str); 150] = [
     ("0", "0"),
@@ -285,7 +285,7 @@ static WIDE: [(&str, Parts); 3] = [
 ];
 
 // The one spelling of the number that a text is read as, or the name of its fault.
-fn answer(alloc: Global, text: &[u8]) -> Result<String, NoMemory> {
+fn reprinted(alloc: Global, text: &[u8]) -> Result<String, NoMemory> {
     match read_number(text) {
         Ok(x) => print_number(alloc, x),
         Err(NumberFault::BadNumber) => Ok(String::from_str(alloc, "BadNumber")?),
@@ -294,29 +294,27 @@ fn answer(alloc: Global, text: &[u8]) -> Result<String, NoMemory> {
 }
 
 #[test]
-fn numbers_of_the_table(rt: HostRuntime) -> Result<(), Fail> {
+fn numbers_of_the_table(rt: HostRuntime) {
     for (text, expected) in NUMBERS.iter() {
-        let answer = answer(rt.alloc(), text.as_bytes())?;
-        assert_eq!(rt; answer.as_bytes(), expected.as_bytes(), "{text}");
+        let printed = reprinted(rt.alloc(), text.as_bytes()).expect(&rt, "memory");
+        assert_eq!(rt; printed.as_bytes(), expected.as_bytes(), "{text}");
     }
-    Ok(())
 }
 
 #[test]
-fn examples_of_the_spelling(rt: HostRuntime) -> Result<(), Fail> {
+fn examples_of_the_spelling(rt: HostRuntime) {
     for (text, parts) in EXAMPLES.iter() {
         let x = frac(&rt, *parts);
-        let printed = print_number(rt.alloc(), x)?;
+        let printed = print_number(rt.alloc(), x).expect(&rt, "memory");
         assert_eq!(rt; printed.as_bytes(), text.as_bytes(), "{text}");
         assert_eq!(rt; read_number(text.as_bytes()), Ok(x), "{text}");
     }
-    Ok(())
 }
 
 #[test]
-fn wide_numbers_are_printed(rt: HostRuntime) -> Result<(), Fail> {
+fn wide_numbers_are_printed(rt: HostRuntime) {
     for (text, parts) in WIDE.iter() {
-        let printed = print_number(rt.alloc(), frac(&rt, *parts))?;
+        let printed = print_number(rt.alloc(), frac(&rt, *parts)).expect(&rt, "memory");
         assert_eq!(rt; printed.as_bytes(), text.as_bytes(), "{text}");
         assert_eq!(rt;
             read_number(text.as_bytes()),
@@ -324,5 +322,4 @@ fn wide_numbers_are_printed(rt: HostRuntime) -> Result<(), Fail> {
             "{text}"
         );
     }
-    Ok(())
 }

@@ -1,12 +1,20 @@
-use crate::{Frac, FracStop, add, div, inv, mul, sub};
-use fs_quadratic::{Elem, Field};
+// Fractions in lowest terms: sums, products, inverses and quotients. Expected values were computed
+// with whole numbers of any size. Each number of a computation that can overflow alone does so in a
+// row, and is within the width by little in another; q·q overflows together with d·q·q.
+use crate::common::{MOST, Parts, field, frac};
+use fs_fraction::{Frac, FracStop, add, div, inv, mul, sub};
+use fs_quadratic::Elem;
 use std::process::Abort;
-use std::test::Fail;
 
-// Expected values of these tables were computed with whole numbers of any size. Each number on
-// the way that can leave the width alone does so in a row, and is within it by little in another;
-// q·q leaves it together with d·q·q.
-pub(crate) type Parts = (i128, i128, i128);
+// p, q and a denominator, and the same in lowest terms.
+const LOWEST: [(Parts, Parts); 6] = [
+    ((2, 4, 6), (1, 2, 3)),
+    ((0, 0, 7), (0, 0, 1)),
+    ((-3, 6, 4), (-3, 6, 4)),
+    ((-8, 0, 12), (-2, 0, 3)),
+    ((MOST, 0, MOST), (1, 0, 1)),
+    ((MOST, -1, MOST), (MOST, -1, MOST)),
+];
 
 // Two fractions as p, q and the denominator, and their sum where it fits.
 const SUMS: [(Parts, Parts, Option<Parts>); 19] = [
@@ -551,14 +559,7 @@ const QUOTIENTS: [(u16, Parts, Parts, Option<Parts>); 7] = [
     ),
 ];
 
-pub(crate) fn frac(rt: &impl Abort, parts: Parts) -> Frac {
-    let (p, q, den) = parts;
-    assert!(rt; p != i128::MIN);
-    assert!(rt; q != i128::MIN);
-    assert!(rt; den > 0);
-    Frac::new(Elem::new(p, q), den)
-}
-
+// The fraction of these parts, where they are given.
 fn expected(rt: &impl Abort, parts: Option<Parts>) -> Result<Frac, FracStop> {
     match parts {
         Some(parts) => Ok(frac(rt, parts)),
@@ -567,8 +568,18 @@ fn expected(rt: &impl Abort, parts: Option<Parts>) -> Result<Frac, FracStop> {
 }
 
 #[test]
-fn sums_at_the_edge(rt: HostRuntime) -> Result<(), Fail> {
-    let field = Field::new(2)?;
+fn lowest_terms(rt: HostRuntime) {
+    for (parts, (p, q, den)) in LOWEST {
+        let x = frac(&rt, parts);
+        assert_eq!(rt; (x.num().p(), x.num().q()), (p, q), "of {parts:?}");
+        assert_eq!(rt; x.den(), den, "of {parts:?}");
+        assert_eq!(rt; x.denominator(), den.unsigned_abs(), "of {parts:?}");
+    }
+}
+
+#[test]
+fn sums_at_the_edge(rt: HostRuntime) {
+    let field = field(&rt, 2);
     for (x, y, sum) in SUMS {
         let (x, y, sum) = (frac(&rt, x), frac(&rt, y), expected(&rt, sum));
         assert_eq!(rt; add(field, x, y), sum, "{x:?} and {y:?}");
@@ -576,41 +587,37 @@ fn sums_at_the_edge(rt: HostRuntime) -> Result<(), Fail> {
         assert_eq!(rt;
             sub(field, x, y.neg()),
             sum,
-            "{x:?} less the opposite of {y:?}"
+            "{x:?} less the negation of {y:?}"
         );
     }
-    Ok(())
 }
 
 #[test]
-fn products_at_the_edge(rt: HostRuntime) -> Result<(), Fail> {
+fn products_at_the_edge(rt: HostRuntime) {
     for (d, x, y, product) in PRODUCTS {
-        let field = Field::new(d)?;
+        let field = field(&rt, d);
         let (x, y, product) = (frac(&rt, x), frac(&rt, y), expected(&rt, product));
         assert_eq!(rt; mul(field, x, y), product, "{x:?} times {y:?} at {d}");
         assert_eq!(rt; mul(field, y, x), product, "{y:?} times {x:?} at {d}");
     }
-    Ok(())
 }
 
 #[test]
-fn inverses_at_the_edge(rt: HostRuntime) -> Result<(), Fail> {
+fn inverses_at_the_edge(rt: HostRuntime) {
     for (d, x, inverse) in INVERSES {
-        let field = Field::new(d)?;
+        let field = field(&rt, d);
         let (x, inverse) = (frac(&rt, x), expected(&rt, inverse));
         assert!(rt; x.num() != Elem::ZERO);
         assert_eq!(rt; inv(field, x), inverse, "of {x:?} at {d}");
     }
-    Ok(())
 }
 
 #[test]
-fn quotients(rt: HostRuntime) -> Result<(), Fail> {
+fn quotients(rt: HostRuntime) {
     for (d, x, y, quotient) in QUOTIENTS {
-        let field = Field::new(d)?;
+        let field = field(&rt, d);
         let (x, y, quotient) = (frac(&rt, x), frac(&rt, y), expected(&rt, quotient));
         assert!(rt; y.num() != Elem::ZERO);
         assert_eq!(rt; div(field, x, y), quotient, "{x:?} by {y:?} at {d}");
     }
-    Ok(())
 }

@@ -1,17 +1,16 @@
-use crate::{Place, V2, cross, dot, in_sector, norm};
-use fs_quadratic::{Elem, Field};
+// Vectors: the cross product, the dot product, the squared length, sectors, and which vectors are
+// small, upper and raised.
+use crate::common::{MOST, Pair, Vector, elem, field, vector};
+use fs_plane::{Place, cross, dot, in_sector, norm};
+use fs_quadratic::Elem;
 use std::process::Abort;
-use std::test::Fail;
 
-type Pair = (i128, i128);
-
-type Vector = (Pair, Pair);
-
-type Answer = Result<Pair, u32>;
+// The parts of a number, or a place.
+type Outcome = Result<Pair, u32>;
 
 // d, two vectors, and their cross product, their dot product and the first one's norm, or the
-// place where these stop; computed with whole numbers of any size.
-const FORMULAS: [(u16, Vector, Vector, [Answer; 3]); 15] = [
+// first place that overflows; computed with whole numbers of any size.
+const FORMULAS: [(u16, Vector, Vector, [Outcome; 3]); 15] = [
     (
         2,
         ((3, 1), (-2, 5)),
@@ -185,7 +184,7 @@ const FORMULAS: [(u16, Vector, Vector, [Answer; 3]); 15] = [
 ];
 
 // d, the outgoing and the incoming side of a corner, a vector, and whether it is in the sector, or
-// the place where the test stops; computed with whole numbers of any size.
+// the first place that overflows; computed with whole numbers of any size.
 const SECTORS: [(u16, Vector, Vector, Vector, Result<bool, u32>); 25] = [
     (
         2,
@@ -364,20 +363,38 @@ const SECTORS: [(u16, Vector, Vector, Vector, Result<bool, u32>); 25] = [
     ),
 ];
 
-fn elem(rt: &impl Abort, part: Pair) -> Elem {
-    assert!(rt; part.0 != i128::MIN);
-    assert!(rt; part.1 != i128::MIN);
-    Elem::new(part.0, part.1)
-}
+// The greatest part of a small number, 2^58 - 1.
+const MOST_SMALL: i128 = 288230376151711743;
 
-fn vector(rt: &impl Abort, parts: Vector) -> V2 {
-    V2 {
-        x: elem(rt, parts.0),
-        y: elem(rt, parts.1),
-    }
-}
+// A vector, and whether its first and its second coordinate is small.
+const SIZES: [(Vector, bool, bool); 8] = [
+    (((0, 0), (0, 0)), true, true),
+    (
+        ((MOST_SMALL, -MOST_SMALL), (-MOST_SMALL, MOST_SMALL)),
+        true,
+        true,
+    ),
+    (((MOST_SMALL + 1, 0), (0, 0)), false, true),
+    (((0, -MOST_SMALL - 1), (0, 0)), false, true),
+    (((0, 0), (-MOST_SMALL - 1, 0)), true, false),
+    (((0, 0), (0, MOST_SMALL + 1)), true, false),
+    (((-MOST, 0), (0, MOST)), false, false),
+    (((0, MOST), (-MOST, 0)), false, false),
+];
 
-fn answer(rt: &impl Abort, expected: Answer) -> Result<Elem, Place> {
+// A vector over the field of √2, whether it is upper, and whether it is raised.
+const HALVES: [(Vector, bool, bool); 7] = [
+    (((0, 0), (0, 0)), false, false),
+    (((1, 0), (0, 0)), true, false),
+    (((-1, 0), (0, 0)), false, true),
+    (((3, -2), (0, 0)), true, false),
+    (((1, -1), (0, 0)), false, true),
+    (((-5, 0), (-1, 1)), true, true),
+    (((5, 0), (1, -1)), false, false),
+];
+
+// The number of these parts, or the place of this number.
+fn outcome(rt: &impl Abort, expected: Outcome) -> Result<Elem, Place> {
     match expected {
         Ok(parts) => Ok(elem(rt, parts)),
         Err(place) => Err(Place(place)),
@@ -385,29 +402,28 @@ fn answer(rt: &impl Abort, expected: Answer) -> Result<Elem, Place> {
 }
 
 #[test]
-fn formulas_and_their_places(rt: HostRuntime) -> Result<(), Fail> {
+fn formulas_and_their_places(rt: HostRuntime) {
     for (d, a, b, expected) in FORMULAS {
-        let field = Field::new(d)?;
+        let field = field(&rt, d);
         let (a, b) = (vector(&rt, a), vector(&rt, b));
         assert_eq!(rt;
             cross(field, a, b),
-            answer(&rt, expected[0]),
+            outcome(&rt, expected[0]),
             "cross of {a:?} and {b:?}"
         );
         assert_eq!(rt;
             dot(field, a, b),
-            answer(&rt, expected[1]),
+            outcome(&rt, expected[1]),
             "dot of {a:?} and {b:?}"
         );
-        assert_eq!(rt; norm(field, a), answer(&rt, expected[2]), "norm of {a:?}");
+        assert_eq!(rt; norm(field, a), outcome(&rt, expected[2]), "norm of {a:?}");
     }
-    Ok(())
 }
 
 #[test]
-fn sectors_and_their_places(rt: HostRuntime) -> Result<(), Fail> {
+fn sectors_and_their_places(rt: HostRuntime) {
     for (d, out, incoming, v, expected) in SECTORS {
-        let field = Field::new(d)?;
+        let field = field(&rt, d);
         let (out, incoming, v) = (vector(&rt, out), vector(&rt, incoming), vector(&rt, v));
         assert_eq!(rt;
             in_sector(field, out, incoming, v),
@@ -415,5 +431,24 @@ fn sectors_and_their_places(rt: HostRuntime) -> Result<(), Fail> {
             "{v:?} in the sector from {out:?} to the opposite of {incoming:?}"
         );
     }
-    Ok(())
+}
+
+#[test]
+fn small_vectors(rt: HostRuntime) {
+    for (parts, x, y) in SIZES {
+        let v = vector(&rt, parts);
+        assert_eq!(rt; v.x.is_small(), x, "x of {parts:?}");
+        assert_eq!(rt; v.y.is_small(), y, "y of {parts:?}");
+        assert_eq!(rt; v.is_small(), x && y, "{parts:?}");
+    }
+}
+
+#[test]
+fn upper_and_raised_vectors(rt: HostRuntime) {
+    let field = field(&rt, 2);
+    for (parts, upper, raised) in HALVES {
+        let v = vector(&rt, parts);
+        assert_eq!(rt; v.is_upper(field), upper, "{parts:?}");
+        assert_eq!(rt; v.is_raised(field), raised, "{parts:?}");
+    }
 }

@@ -1,0 +1,17 @@
+// Tests of the public calls of each crate: tables of arguments and results.
+#![tactic(auto)]
+
+#[cfg(test)]
+mod common;
+#[cfg(test)]
+mod corners;
+#[cfg(test)]
+mod fractions;
+#[cfg(test)]
+mod numbers;
+#[cfg(test)]
+mod spellings;
+#[cfg(test)]
+mod vectors;
+#[cfg(test)]
+mod widths;
