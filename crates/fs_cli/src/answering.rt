@@ -2,7 +2,7 @@ ghost use Rattle.std.specs.Prelude.{◌∷◌, []};
 ghost use Rattle.fs_gluing.specs.Surface.{IsSurface};
 ghost use Rattle.fs_report.specs.Text.{fault_text, build_text, Answers};
 ghost use Rattle.fs_cli.specs.Answer.{IsWhole, AnswersAll};
-ghost use Rattle.fs_cli.specs.Writing.{Writes, IsThisText, WithStatus};
+ghost use Rattle.fs_cli.specs.Writing.{Writes, IsThisText, HasStatus};
 
 use crate::outcome::Status;
 use fs_gluing::{Fault, Surface};
@@ -15,7 +15,7 @@ use std::alloc::Global;
 // How many steps a command may take.
 const BUDGET: u32 = 100_000;
 
-// Writes a text, whose status this is.
+// Writes a text with its status.
 fn write_text<O: Sink>(text: &str, status: Status, out: &mut O) -> Status
     requires { IsWhole status }
     ensures { Writes (IsThisText text.now status) result (O.held out.old) (O.held out.new) (O.faults out.old) (O.faults out.new) }
@@ -36,7 +36,7 @@ pub(crate) fn refuse<O: Sink>(alloc: Global, fault: &Fault, out: &mut O) -> Stat
     write_text(&line, Status::Refused, out)
 }
 
-// Writes the line of the site where building left the width.
+// Writes the line of the site where building overflowed.
 pub(crate) fn stop_at<O: Sink>(alloc: Global, site: &Site, out: &mut O) -> Status
     ensures { Writes (IsThisText (build_text site.now) Status.Partial) result (O.held out.old) (O.held out.new) (O.faults out.old) (O.faults out.new) }
 {
@@ -46,10 +46,10 @@ pub(crate) fn stop_at<O: Sink>(alloc: Global, site: &Site, out: &mut O) -> Statu
     write_text(&line, Status::Partial, out)
 }
 
-// Writes the answer of one command.
+// Writes the answer to one command.
 fn answer_one<O: Sink>(alloc: Global, surface: &Surface, command: &Command, out: &mut O) -> Status
     requires { IsSurface surface.now }
-    ensures { Writes (WithStatus (Answers surface.now command.now)) result
+    ensures { Writes (HasStatus (Answers surface.now command.now)) result
         (O.held out.old) (O.held out.new) (O.faults out.old) (O.faults out.new) }
 {
     let Ok(answer) = find_answer(alloc, surface, command, BUDGET) else {
@@ -63,7 +63,7 @@ fn answer_one<O: Sink>(alloc: Global, surface: &Surface, command: &Command, out:
     write_text(&answer.text, status, out)
 }
 
-// Writes the answers of commands in order, each before the next one is sought.
+// Writes the answers to commands in order, each before the next one is found.
 pub(crate) fn answer_all<O: Sink>(
     alloc: Global,
     surface: &Surface,
@@ -71,7 +71,7 @@ pub(crate) fn answer_all<O: Sink>(
     out: &mut O,
 ) -> Status
     requires { IsSurface surface.now }
-    ensures { Writes (WithStatus (AnswersAll surface.now commands.now)) result
+    ensures { Writes (HasStatus (AnswersAll surface.now commands.now)) result
         (O.held out.old) (O.held out.new) (O.faults out.old) (O.faults out.new) }
 {
     let mut status = Status::Done;

@@ -17,7 +17,7 @@ pub enum Command {
 /// How a job describes its surface.
 #[derive(Drop)]
 pub enum Form {
-    /// By polygons and their glued sides, in true size.
+    /// By polygons and their glued sides, unscaled.
     Polygons(Shape),
 }
 
@@ -34,7 +34,7 @@ pub struct Job {
 pub enum JobStop {
     /// The bytes are no job.
     Fault(Fault),
-    /// Memory ran out.
+    /// Out of memory.
     NoMemory,
 }
 

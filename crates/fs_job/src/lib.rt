@@ -3,7 +3,7 @@
 
 mod draft_job;
 mod drafts;
-mod forms;
+mod statements;
 mod job;
 mod laws;
 mod lines;

@@ -5,7 +5,7 @@ use fs_fraction::NoMemory;
 use fs_plane::Site;
 use std::alloc::Global;
 
-/// The name of a site and its numbers, as they stand behind `overflow`.
+/// The name of a site and its numbers, as they are printed after `overflow`.
 pub fn print_site(alloc: Global, site: &Site) -> Result<String, NoMemory>
     ensures { IfOk result (λ text. string_bytes text ≡ site_text site.now) }
 {

@@ -18,8 +18,8 @@ const SQUARE: [&str; 7] = [
     "end",
 ];
 
-// What is in the place of one of its lines, numbered from 1, and what comes of it. A fault that has
-// a line is that of this one.
+// What replaces one of its lines, numbered from 1, and the name of the result. A fault that has
+// a line has this one.
 static CHANGES: [(usize, &str, &str); 124] = [
     (1, "Flatsurf 1", "BadHeader"),
     (1, "flatsurf 1 1", "BadHeader"),
@@ -159,7 +159,7 @@ static CHANGES: [(usize, &str, &str); 124] = [
     (7, "end ", "read"),
 ];
 
-// Whole texts, what comes of each, and on which line.
+// Whole texts, the name of the result of each, and its line.
 static TEXTS: [(&[u8], &str, u32); 49] = [
     (
         b"flatsurf 1\nfield 2\npolygon 1,0 0,1 -1,0 0,-1\x80\nglue 0.0 0.2\nglue 0.1 0.3\ncheck\nend\n",
@@ -364,8 +364,8 @@ static TEXTS: [(&[u8], &str, u32); 49] = [
     ),
 ];
 
-// What comes of each line of the square cut short, by the number of bytes that are left: `.` is
-// nothing, `h` BadHeader, `l` BadLine and `n` BadNumber of the same line.
+// The result for each line of the square cut short, by the number of bytes that are left: `.` is
+// none, `h` BadHeader, `l` BadLine and `n` BadNumber of the same line.
 const CUT_SHORT: [&str; 7] = [
     "hhhhhhhhhh.",
     ".llllll.",
@@ -376,7 +376,7 @@ const CUT_SHORT: [&str; 7] = [
     ".ll.",
 ];
 
-// What comes of the square where a line is missing, doubled, or exchanged with the next.
+// The result for the square where a line is missing, doubled, or exchanged with the next.
 const MISSING: [(&str, u32); 7] = [
     ("BadHeader", 0),
     ("BadLine", 2),
@@ -406,7 +406,7 @@ const EXCHANGED: [(&str, u32); 6] = [
     ("BadLine", 7),
 ];
 
-// What came of a text: the name of the fault and the line that it names, or 0.
+// The result for a text: the name of the fault and the line that it names, or 0.
 fn told(answer: &Result<Job, JobStop>) -> (&'static str, u32) {
     match answer {
         Ok(_) => ("read", 0),
@@ -425,7 +425,7 @@ fn told(answer: &Result<Job, JobStop>) -> (&'static str, u32) {
     }
 }
 
-// A text, and behind it the lines of the square from one to before another.
+// A text, and after it the lines of the square from one to before another.
 fn with_lines(mut text: Vec<u8>, from: usize, to: usize) -> Result<Vec<u8>, AllocError> {
     for (i, line) in SQUARE.iter().enumerate() {
         if from <= i && i < to {
@@ -443,7 +443,7 @@ fn changed(alloc: Global, from: usize, to: usize, text: &[u8]) -> Result<Vec<u8>
     with_lines(job, to, 7)
 }
 
-// What comes of a text.
+// The result for a text.
 fn read(alloc: Global, text: &[u8]) -> (&'static str, u32) {
     if text.len() > 1_048_576 {
         return ("too long", 0);
@@ -455,10 +455,10 @@ fn read(alloc: Global, text: &[u8]) -> (&'static str, u32) {
 fn changed_lines(rt: HostRuntime) -> Result<(), Fail> {
     let alloc = rt.alloc();
     for (number, change, name) in CHANGES.iter() {
-        let mut front = with_lines(Vec::new(alloc), 0, number.saturating_sub(1))?;
-        front.extend_from_slice(change.as_bytes())?;
-        front.push(b'\n')?;
-        let job = with_lines(front, *number, 7)?;
+        let mut prefix = with_lines(Vec::new(alloc), 0, number.saturating_sub(1))?;
+        prefix.extend_from_slice(change.as_bytes())?;
+        prefix.push(b'\n')?;
+        let job = with_lines(prefix, *number, 7)?;
         let (answer, line) = read(alloc, job.as_slice());
         assert_eq!(rt; answer, *name, "{change}");
         assert!(rt; line == 0 || line as usize == *number, "{change}");
@@ -495,15 +495,15 @@ fn doubled_and_exchanged_lines(rt: HostRuntime) -> Result<(), Fail> {
         assert_eq!(rt; read(alloc, twice.as_slice()), *expected, "{i}");
     }
     for (i, expected) in EXCHANGED.iter().enumerate() {
-        let front = with_lines(Vec::new(alloc), 0, i)?;
-        let both = with_lines(with_lines(front, i + 1, i + 2)?, i, i + 1)?;
+        let prefix = with_lines(Vec::new(alloc), 0, i)?;
+        let both = with_lines(with_lines(prefix, i + 1, i + 2)?, i, i + 1)?;
         let job = with_lines(both, i + 2, 7)?;
         assert_eq!(rt; read(alloc, job.as_slice()), *expected, "{i}");
     }
     Ok(())
 }
 
-// What comes of a line cut short, by the letter of the table, and where nothing does.
+// The result for a line cut short, by the letter of the table, or this one where it has none.
 fn of_letter(letter: u8, number: u32, nothing: &'static str) -> (&'static str, u32) {
     match letter {
         b'h' => ("BadHeader", 0),

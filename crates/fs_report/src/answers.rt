@@ -7,16 +7,16 @@ use fs_gluing::Surface;
 use fs_job::Command;
 use std::alloc::{AllocError, Global};
 
-/// What a command answers.
+/// The answer to a command.
 #[derive(Drop)]
 pub struct Answer {
     /// Its lines.
     pub text: String,
-    /// Whether that is an overflow or a spent budget in the place of the whole answer.
+    /// Whether it is an overflow or a spent budget in place of the whole answer.
     pub partial: bool,
 }
 
-// How many sides the polygons have together.
+// The number of sides of all polygons.
 fn count_sides(surface: &Surface) -> u16
     ensures { result ≡ sum_by length surface.now.polygons }
 {
@@ -44,7 +44,7 @@ fn check_line(alloc: Global, surface: &Surface) -> Result<String, NoMemory>
     Ok(line)
 }
 
-/// What a command answers of a surface, within a budget of 1 to 1,000,000 steps.
+/// The answer to a command about a surface, within a budget of 1 to 1,000,000 steps.
 pub fn find_answer(
     alloc: Global,
     surface: &Surface,

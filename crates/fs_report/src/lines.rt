@@ -15,7 +15,7 @@ pub fn fault_line(alloc: Global, fault: &Fault) -> Result<String, NoMemory>
     Ok(line)
 }
 
-// The same, as what formatting answers.
+// The line of a fault.
 fn refusal(alloc: Global, fault: Fault) -> Result<String, AllocError>
     ensures { IfOk result (λ line. string_bytes line ≡ fault_text fault) }
 {
@@ -47,14 +47,14 @@ fn refusal(alloc: Global, fault: Fault) -> Result<String, AllocError>
     }
 }
 
-/// The line that names the site where building left the width.
+/// The line that names the site where building overflowed.
 pub fn build_line(alloc: Global, site: &Site) -> Result<String, NoMemory>
     ensures { IfOk result (λ line. string_bytes line ≡ build_text site.now) }
 {
     overflow_line(alloc, "build", site)
 }
 
-// The line that names the site where something left the width: a command, or building.
+// The line that names the site where a command or building overflowed.
 pub(crate) fn overflow_line(alloc: Global, what: &str, site: &Site) -> Result<String, NoMemory>
     ensures { IfOk result (λ line. string_bytes line ≡ overflow_text what.now site.now) }
 {
