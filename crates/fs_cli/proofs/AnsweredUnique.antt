@@ -9,11 +9,12 @@ use Rattle.fs_gluing.specs.FirstFault.{Test, PassesOf, tests_of, IsFirstFailure,
 use Rattle.fs_gluing.specs.Shape.{HasShape}
 use Rattle.fs_gluing.specs.Surface.{GluedPolygons}
 use Rattle.fs_gluing.proofs.OneSurface.{one_surface}
-use Rattle.fs_job.specs.Grammar.{Draft, IsJob, IsFirstFault}
-use Rattle.fs_report.specs.Text.{fault_text}
+use Rattle.fs_job.specs.Draft.{Draft}
+use Rattle.fs_job.specs.Grammar.{IsJob, IsFirstFault}
+use Rattle.fs_report.specs.Text.{fault_line}
 use Rattle.fs_cli.specs.declared.outcome.Status.TheVariants as status
 use Rattle.fs_cli.specs.declared.outcome.Status.{Status}
-use Rattle.fs_cli.specs.Answer.{IsAnswered, too_long, no_job, not_built, answered, AnswersAll, draft_shape, stop_text, stop_status, status_of}
+use Rattle.fs_cli.specs.Answer.{IsAnswered, too_long, no_job, not_built, answered, AnswersAll, draft_shape, stop_line, stop_status, status_of}
 use Rattle.fs_cli.specs.Writing.{IsThisText, HasStatus}
 use Rattle.fs_cli.proofs.CommandTexts.{answers_all_unique}
 
@@ -44,7 +45,7 @@ texts_along a b s t output r e of_s of_t all texts =
 -- ---- what an answer is, for each reason
 
 -- bytes that are too many have this answer only
-pub only_long : (bytes : List ℕ) → most_bytes < length bytes → (output : List ℕ) (r : Status) → IsAnswered bytes output r → IsThisText (fault_text TooLong) status.Refused output r
+pub only_long : (bytes : List ℕ) → most_bytes < length bytes → (output : List ℕ) (r : Status) → IsAnswered bytes output r → IsThisText (fault_line TooLong) status.Refused output r
 only_long bytes many output r (too_long a s e) = (e, s)
 only_long bytes many output r (no_job n a fault s e) = absurd (omega arith)
 only_long bytes many output r (not_built j k a reads first s e) = absurd (omega arith)
@@ -53,20 +54,20 @@ only_long bytes many output r (answered j u p a reads surface shape all texts s)
 module _ (law : JobLaw) (bytes : List ℕ) where
   -- bytes with a first fault have this answer only
   pub only_fault : (fault : Fault) → length bytes ≤ most_bytes → IsFirstFault bytes fault → (output : List ℕ) (r : Status) → IsAnswered bytes output r
-      → IsThisText (fault_text fault) status.Refused output r
+      → IsThisText (fault_line fault) status.Refused output r
   only_fault n few fault output r (too_long a s e) = absurd (omega arith)
-  only_fault n few fault output r (no_job n' a fault' s e) = (e ∙ ap (λ (k : Fault). fault_text k) (law.one_fault bytes n' n fault' fault), s)
+  only_fault n few fault output r (no_job n' a fault' s e) = (e ∙ ap (λ (k : Fault). fault_line k) (law.one_fault bytes n' n fault' fault), s)
   only_fault n few fault output r (not_built j k a reads first s e) = absurd (law.not_both bytes j n reads fault)
   only_fault n few fault output r (answered j u p a reads surface shape all texts s) = absurd (law.not_both bytes j n reads fault)
 
   -- a job whose shape fails a test has this answer only
   pub only_stop : (draft : Draft) (test : Test) → length bytes ≤ most_bytes → IsJob bytes draft → IsFirstFailure draft.d (draft_shape draft) test → (output : List ℕ) (r : Status)
-      → IsAnswered bytes output r → IsThisText (stop_text (answer test)) (stop_status (answer test)) output r
+      → IsAnswered bytes output r → IsThisText (stop_line (answer test)) (stop_status (answer test)) output r
   only_stop j k few reads first output r (too_long a s e) = absurd (omega arith)
   only_stop j k few reads first output r (no_job n a fault s e) = absurd (law.not_both bytes j n reads fault)
   only_stop j k few reads first output r (not_built j' k' a reads' first' s e) =
       let same = first_along j' j k' k (law.one_job bytes j' j reads' reads) first' first in
-      (e ∙ ap (λ (x : Test). stop_text (answer x)) same, s ∙ ap (λ (x : Test). stop_status (answer x)) same)
+      (e ∙ ap (λ (x : Test). stop_line (answer x)) same, s ∙ ap (λ (x : Test). stop_status (answer x)) same)
   only_stop j k few reads first output r (answered j' u p a reads' surface shape all texts s) =
       absurd (failed_and_passed j j' k (law.one_job bytes j j' reads reads') first all)
 

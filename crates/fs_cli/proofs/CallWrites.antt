@@ -14,24 +14,25 @@ use Rattle.fs_gluing.specs.Surface.{GluedPolygons, IsSurface}
 use Rattle.fs_job.specs.declared.job.Command.{Command}
 use Rattle.fs_job.specs.declared.job.JobStop.{JobStop}
 use Rattle.fs_job.specs.declared.job.JobStop.TheVariants as job_stops
-use Rattle.fs_job.specs.Grammar.{Draft, IsJob, IsFirstFault}
-use Rattle.fs_report.specs.Text.{fault_text, Answers}
+use Rattle.fs_job.specs.Draft.{Draft}
+use Rattle.fs_job.specs.Grammar.{IsJob, IsFirstFault}
+use Rattle.fs_report.specs.Text.{fault_line, Answers}
 use Rattle.fs_report.proofs.AnswersUnique.{answer_unique}
 use Rattle.fs_cli.specs.declared.outcome.Status.{Status}
 use Rattle.fs_cli.specs.declared.outcome.Status.TheVariants as status
-use Rattle.fs_cli.specs.Answer.{IsAnswered, no_job, not_built, answered, BeginsAnswer, draft_shape, stop_text, stop_status, AnswersAll, status_of}
-use Rattle.fs_cli.specs.Writing.{Writes, IsThisText, HasStatus, BeginsEach}
+use Rattle.fs_cli.specs.Answer.{IsAnswered, no_job, not_built, answered, BeginsEach, draft_shape, stop_line, stop_status, AnswersAll, status_of}
+use Rattle.fs_cli.specs.Writing.{Writes, IsThisText, HasStatus}
 use Rattle.fs_cli.proofs.AnsweredUnique.{JobLaw, only_long, only_fault, only_stop, only_texts}
 
 -- each answer begins with the empty text
-pub nothing_begins : (old held : Option (List ℕ)) → IfSome old (λ bytes. (prefix : List ℕ) × BeginsAnswer bytes prefix × Appends held held prefix)
+pub nothing_begins : (old held : Option (List ℕ)) → IfSome old (λ bytes. (prefix : List ℕ) × BeginsEach (IsAnswered bytes) prefix × Appends held held prefix)
 nothing_begins None held = tt
 nothing_begins (Some bytes) held = ([], λ output result answered. (output, refl), Appends-nil held)
 
 -- bytes that are too many
 pub too_long_begins : (old new : Option (List ℕ)) (taken : List ℕ) (held held' : Option (List ℕ)) → Consumes old new taken → length taken ≡ most_bytes + 1
-    → (prefix : List ℕ) × BeginsEach (IsThisText (fault_text TooLong) status.Refused) prefix × Appends held held' prefix
-    → IfSome old (λ bytes. (prefix : List ℕ) × BeginsAnswer bytes prefix × Appends held held' prefix)
+    → (prefix : List ℕ) × BeginsEach (IsThisText (fault_line TooLong) status.Refused) prefix × Appends held held' prefix
+    → IfSome old (λ bytes. (prefix : List ℕ) × BeginsEach (IsAnswered bytes) prefix × Appends held held' prefix)
 too_long_begins None new taken held held' c many wrote = tt
 too_long_begins (Some bytes) None taken held held' c many wrote = absurd c
 too_long_begins (Some bytes) (Some rest) taken held held' c many wrote =
@@ -83,9 +84,9 @@ module _ (result : Status) (held held' : Option (List ℕ)) (faults faults' : �
   module _ (law : JobLaw) (bytes : List ℕ) (few : length bytes ≤ most_bytes) where
     -- bytes that are no job
     pub writes_fault : (e : JobStop) (fault : Fault) → e ≡ job_stops.Fault fault → (e ≡ job_stops.NoMemory) ⊎ ((f : Fault) × (e ≡ job_stops.Fault f) × IsFirstFault bytes f)
-        → Writes (IsThisText (fault_text fault) status.Refused) result held held' faults faults' → Writes (IsAnswered bytes) result held held' faults faults'
+        → Writes (IsThisText (fault_line fault) status.Refused) result held held' faults faults' → Writes (IsAnswered bytes) result held held' faults faults'
     writes_fault e fault is told =
-        writes_just (IsAnswered bytes) (fault_text fault) status.Refused (no_job fault few first refl refl) (only_fault law bytes fault few first)
+        writes_just (IsAnswered bytes) (fault_line fault) status.Refused (no_job fault few first refl refl) (only_fault law bytes fault few first)
       where
         other_stops : job_stops.Fault fault ≡ job_stops.NoMemory → ⊥
         other_stops f = cc
@@ -101,7 +102,7 @@ module _ (result : Status) (held held' : Option (List ℕ)) (faults faults' : �
 
     -- a job whose shape isn't built
     pub writes_stop : (draft : Draft) (e stop : BuildStop) → e ≡ stop → IsJob bytes draft → Judges draft.d (draft_shape draft) (Err e) → stop ≢ stops.NoMemory
-        → Writes (IsThisText (stop_text stop) (stop_status stop)) result held held' faults faults' → Writes (IsAnswered bytes) result held held' faults faults'
+        → Writes (IsThisText (stop_line stop) (stop_status stop)) result held held' faults faults' → Writes (IsAnswered bytes) result held held' faults faults'
     writes_stop draft e stop is reads judged some w = elim judged [
       | inl none ↦ absurd (some (sym is ∙ none))
       | inr failed ↦ stopped failed.0 failed.1 (sym is ∙ failed.2)
@@ -109,10 +110,10 @@ module _ (result : Status) (held held' : Option (List ℕ)) (faults faults' : �
       where
         stopped : (test : Test) → IsFirstFailure draft.d (draft_shape draft) test → stop ≡ answer test → Writes (IsAnswered bytes) result held held' faults faults'
         stopped test first same =
-            writes_just (IsAnswered bytes) (stop_text stop) (stop_status stop) (not_built draft test few reads first (ap stop_status same) (ap stop_text same))
+            writes_just (IsAnswered bytes) (stop_line stop) (stop_status stop) (not_built draft test few reads first (ap stop_status same) (ap stop_line same))
             (λ output r means.
             let just = only_stop law bytes draft test few reads first output r means in
-            (just.0 ∙ sym (ap stop_text same), just.1 ∙ sym (ap stop_status same))) w
+            (just.0 ∙ sym (ap stop_line same), just.1 ∙ sym (ap stop_status same))) w
 
     -- a job whose surface is built
     pub writes_texts : (draft : Draft) (s : GluedPolygons) → IsJob bytes draft → IsSurface s → HasShape draft.d (draft_shape draft) s

@@ -11,8 +11,8 @@ use Rattle.fs_report.specs.Text.{Answers}
 use Rattle.fs_report.proofs.AnswersUnique.{answer_unique, answer_exists}
 use Rattle.fs_cli.specs.declared.outcome.Status.{Status}
 use Rattle.fs_cli.specs.declared.outcome.Status.TheVariants as status
-use Rattle.fs_cli.specs.Answer.{IsWhole, IsBroken, AnswersAll, status_of}
-use Rattle.fs_cli.specs.Writing.{Writes, HasStatus, BeginsEach}
+use Rattle.fs_cli.specs.Answer.{IsWhole, IsBroken, AnswersAll, status_of, BeginsEach}
+use Rattle.fs_cli.specs.Writing.{Writes, HasStatus}
 
 -- ---- the status of a text
 

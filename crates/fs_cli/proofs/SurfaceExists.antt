@@ -6,18 +6,16 @@ use Rattle.fs_gluing.specs.FirstFault.{PassesOf, tests_of}
 use Rattle.fs_gluing.specs.Shape.{HasShape}
 use Rattle.fs_gluing.specs.Surface.{GluedPolygons, IsSurface}
 use Rattle.fs_gluing.proofs.SomeSurface.{some_surface}
-use Rattle.fs_job.specs.Grammar.{Draft, IsJob}
+use Rattle.fs_job.specs.Draft.{Draft}
+use Rattle.fs_job.specs.Grammar.{IsJob}
+use Rattle.fs_job.proofs.Lists.{length_positive}
+use Rattle.fs_job.proofs.SoundDrafts.{job_sound}
 use Rattle.fs_cli.specs.Answer.{draft_shape}
-use Rattle.fs_cli.proofs.Drafts.{job_known}
-
-polygons_positive : (polygons : List (List Point)) → polygons ≢ [] → 0 < length polygons
-polygons_positive [] h = absurd (h refl)
-polygons_positive (polygon ∷ polygons) h = omega arith
 
 -- a job whose shape passes all tests has a surface
 pub surface_of_job : (bytes : List ℕ) (draft : Draft) → IsJob bytes draft → AllByRecursion (PassesOf draft.d (draft_shape draft)) (tests_of (draft_shape draft))
     → (s : GluedPolygons) × IsSurface s × HasShape draft.d (draft_shape draft) s
 surface_of_job bytes draft reads passed =
-    let known = job_known bytes draft reads in
-    some_surface draft.d (draft_shape draft) passed known.0.radicand
-    (record { some_polygon = polygons_positive draft.polygons known.1; polygons = known.0.polygons; sides = known.0.sides }) known.0.points
+    let sound = job_sound bytes draft reads in
+    some_surface draft.d (draft_shape draft) passed sound.0.radicand
+    (record { some_polygon = length_positive draft.polygons sound.1; polygons = sound.0.polygons; sides = sound.0.sides }) sound.0.points

@@ -11,16 +11,17 @@ use Rattle.fs_gluing.specs.Shape.{HasShape}
 use Rattle.fs_gluing.specs.Surface.{GluedPolygons, IsSurface}
 use Rattle.fs_gluing.specs.FirstFault.{Test, PassesOf, tests_of, IsFirstFailure, answer}
 use Rattle.fs_job.specs.declared.job.Command.{Command}
-use Rattle.fs_job.specs.Grammar.{Draft, IsJob, IsFirstFault}
-use Rattle.fs_report.specs.Text.{fault_text, build_text, Answers}
+use Rattle.fs_job.specs.Draft.{Draft}
+use Rattle.fs_job.specs.Grammar.{IsJob, IsFirstFault}
+use Rattle.fs_report.specs.Text.{fault_line, build_line, Answers}
 use Rattle.fs_cli.specs.declared.outcome.Status.{Status}
 use Rattle.fs_cli.specs.declared.outcome.Status.TheVariants as status
 
 -- what is written where a shape isn't built: its fault, or the site
-abbrev pub stop_text : BuildStop → List ℕ
-stop_text (stops.Fault fault) = fault_text fault
-stop_text (stops.Overflow site) = build_text site
-stop_text stops.NoMemory = []
+abbrev pub stop_line : BuildStop → List ℕ
+stop_line (stops.Fault fault) = fault_line fault
+stop_line (stops.Overflow site) = build_line site
+stop_line stops.NoMemory = []
 
 -- the status of such a text
 abbrev pub stop_status : BuildStop → Status
@@ -55,12 +56,12 @@ AnswersAll s (command ∷ commands) output partial = AreJoined (Answers s comman
 -- the bytes are answered with this output and this status, for one of four reasons
 pub data IsAnswered (bytes output : List ℕ) (result : Status) : Type 0 where
   -- there are too many bytes
-  too_long : most_bytes < length bytes → result ≡ status.Refused → output ≡ fault_text TooLong → IsAnswered bytes output result
+  too_long : most_bytes < length bytes → result ≡ status.Refused → output ≡ fault_line TooLong → IsAnswered bytes output result
   -- they are no job
-  no_job : (fault : Fault) → length bytes ≤ most_bytes → IsFirstFault bytes fault → result ≡ status.Refused → output ≡ fault_text fault → IsAnswered bytes output result
+  no_job : (fault : Fault) → length bytes ≤ most_bytes → IsFirstFault bytes fault → result ≡ status.Refused → output ≡ fault_line fault → IsAnswered bytes output result
   -- the shape fails a test of building
   not_built : (draft : Draft) → (test : Test) → length bytes ≤ most_bytes → IsJob bytes draft → IsFirstFailure draft.d (draft_shape draft) test
-      → result ≡ stop_status (answer test) → output ≡ stop_text (answer test) → IsAnswered bytes output result
+      → result ≡ stop_status (answer test) → output ≡ stop_line (answer test) → IsAnswered bytes output result
   -- the surface of the shape is built, and the commands are answered in order
   answered : (draft : Draft) → (s : GluedPolygons) → (partial : Bool) → length bytes ≤ most_bytes → IsJob bytes draft
       → IsSurface s → HasShape draft.d (draft_shape draft) s → AllByRecursion (PassesOf draft.d (draft_shape draft)) (tests_of (draft_shape draft))
@@ -96,6 +97,6 @@ IsBroken status.Partial = ⊥
 IsBroken status.Usage = ⊥
 IsBroken status.ReadFault = ⊥
 
--- each answer to the bytes begins so
-abbrev pub BeginsAnswer : List ℕ → List ℕ → Type 0
-BeginsAnswer bytes prefix = (output : List ℕ) → (result : Status) → IsAnswered bytes output result → (rest : List ℕ) × (output ≡ prefix ++ rest)
+-- each text that is meant begins so
+abbrev pub BeginsEach : (List ℕ → Status → Type 0) → List ℕ → Type 0
+BeginsEach Means prefix = (output : List ℕ) → (result : Status) → Means output result → (rest : List ℕ) × (output ≡ prefix ++ rest)

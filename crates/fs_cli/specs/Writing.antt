@@ -4,7 +4,7 @@ use Rattle.std.specs.Io.KnownBytes.{Appends}
 use Rattle.fs_io.specs.Faults.{Rose}
 use Rattle.fs_cli.specs.declared.outcome.Status.{Status}
 use Rattle.fs_cli.specs.declared.outcome.Status.TheVariants as status
-use Rattle.fs_cli.specs.Answer.{IsWhole, IsBroken, status_of}
+use Rattle.fs_cli.specs.Answer.{IsWhole, IsBroken, status_of, BeginsEach}
 
 -- this text, with this status
 abbrev pub IsThisText : List ℕ → Status → List ℕ → Status → Type 0
@@ -13,10 +13,6 @@ IsThisText text meant output result = (output ≡ text) × (result ≡ meant)
 -- such a text, with its status by whether it is partial
 abbrev pub HasStatus : (List ℕ → Bool → Type 0) → List ℕ → Status → Type 0
 HasStatus P output result = (partial : Bool) × P output partial × (result ≡ status_of partial)
-
--- each text that is meant begins so
-abbrev pub BeginsEach : (List ℕ → Status → Type 0) → List ℕ → Type 0
-BeginsEach Means prefix = (output : List ℕ) → (result : Status) → Means output result → (rest : List ℕ) × (output ≡ prefix ++ rest)
 
 -- a text that is meant with this status was written; or it broke off, and each text that is meant begins with what was written
 pub record Writes (Means : List ℕ → Status → Type 0) (result : Status) (held held' : Option (List ℕ)) (faults faults' : ℕ) : Type 0 where

@@ -1,6 +1,6 @@
 ghost use Rattle.std.specs.Prelude.{◌∷◌, []};
 ghost use Rattle.fs_gluing.specs.Surface.{IsSurface};
-ghost use Rattle.fs_report.specs.Text.{fault_text, build_text, Answers};
+ghost use Rattle.fs_report.specs.Text.{fault_line, build_line, Answers};
 ghost use Rattle.fs_cli.specs.Answer.{IsWhole, AnswersAll};
 ghost use Rattle.fs_cli.specs.Writing.{Writes, IsThisText, HasStatus};
 
@@ -28,7 +28,7 @@ fn write_text<O: Sink>(text: &str, status: Status, out: &mut O) -> Status
 
 // Writes the line of a fault.
 pub(crate) fn refuse<O: Sink>(alloc: Global, fault: &Fault, out: &mut O) -> Status
-    ensures { Writes (IsThisText (fault_text fault.now) Status.Refused) result (O.held out.old) (O.held out.new) (O.faults out.old) (O.faults out.new) }
+    ensures { Writes (IsThisText (fault_line fault.now) Status.Refused) result (O.held out.old) (O.held out.new) (O.faults out.old) (O.faults out.new) }
 {
     let Ok(line) = fault_line(alloc, fault) else {
         return Status::NoMemory;
@@ -38,7 +38,7 @@ pub(crate) fn refuse<O: Sink>(alloc: Global, fault: &Fault, out: &mut O) -> Stat
 
 // Writes the line of the site where building overflowed.
 pub(crate) fn stop_at<O: Sink>(alloc: Global, site: &Site, out: &mut O) -> Status
-    ensures { Writes (IsThisText (build_text site.now) Status.Partial) result (O.held out.old) (O.held out.new) (O.faults out.old) (O.faults out.new) }
+    ensures { Writes (IsThisText (build_line site.now) Status.Partial) result (O.held out.old) (O.held out.new) (O.faults out.old) (O.faults out.new) }
 {
     let Ok(line) = build_line(alloc, site) else {
         return Status::NoMemory;

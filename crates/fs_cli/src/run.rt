@@ -3,7 +3,7 @@ ghost use Rattle.std.specs.Io.KnownBytes.{Appends, IsAtEnd, Keeps};
 ghost use Rattle.fs_io.specs.Faults.{Rose};
 ghost use Rattle.fs_io.specs.Whole.{most_bytes, TakesPrefix};
 ghost use Rattle.fs_job.specs.Reading as reading;
-ghost use Rattle.fs_cli.specs.Answer.{IsAnswered, IsWhole, IsBroken, BeginsAnswer};
+ghost use Rattle.fs_cli.specs.Answer.{IsAnswered, IsWhole, IsBroken, BeginsEach};
 ghost use Rattle.fs_cli.specs.Writing.{Writes};
 
 use crate::answering::{answer_all, refuse, stop_at};
@@ -67,7 +67,7 @@ pub fn flat<I: Source, O: Sink>(
         length bytes ≤ most_bytes → IsAtEnd (I.left input.new)) }
     // Where the sink failed or memory ran out, the sink got a prefix of the answer.
     ensures broken { IsBroken result → IfSome (I.left input.old) (λ bytes.
-        (prefix : List ℕ) × BeginsAnswer bytes prefix × Appends (O.held out.old) (O.held out.new) prefix) }
+        (prefix : List ℕ) × BeginsEach (IsAnswered bytes) prefix × Appends (O.held out.old) (O.held out.new) prefix) }
     ensures read_fault { result ≡ Status.ReadFault
         → Keeps (O.held out.old) (O.held out.new) × Rose (I.faults input.old) (I.faults input.new) }
     ensures write_fault { result ≡ Status.WriteFault → Rose (O.faults out.old) (O.faults out.new) }

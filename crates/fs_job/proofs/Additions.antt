@@ -10,9 +10,9 @@ use Rattle.fs_job.specs.declared.job.Command.{Command}
 use Rattle.fs_job.specs.declared.job.JobStop.{JobStop}
 use Rattle.fs_job.specs.declared.job.JobStop.TheVariants as stops
 use Rattle.fs_job.specs.Statement.{Statement, field_line, polygon_line, glue_line, command_line, end_line, number_texts}
-use Rattle.fs_job.specs.Grammar.{Draft, headed, drafted, ended, to_progress, IsAllowed, HasRoom, HasBadNumber, number_fault, ArePoints}
+use Rattle.fs_job.specs.Draft.{Draft, headed, drafted, ended, to_progress, IsAllowed, most_commands, HasRoom, HasBadNumber, number_fault, ArePoints, StatementLeads, bad_number, accepted}
+use Rattle.fs_job.specs.Stage.{ReturnsOutcome}
 use Rattle.fs_job.specs.Line.{pairs_of}
-use Rattle.fs_job.specs.Stage.{ReturnsOutcome, StatementLeads, bad_number, accepted}
 use Rattle.fs_job.proofs.Pairs.{length-pairs_of}
 use Rattle.fs_job.proofs.PolygonNumbers.{length-points}
 
@@ -28,7 +28,7 @@ adds_glue n draft one two glues none e =
     accepted _ none tt tt (ap (λ (gs : List Glue). drafted (record { d = draft.d; polygons = draft.polygons; glues = gs; commands = draft.commands })) e) refl
 
 -- commands after a polygon are added, while there is room
-pub adds_command : (n : ℕ) (draft : Draft) (command : Command) (commands : List Command) → draft.polygons ≢ [] → length draft.commands < 256 → commands ≡ draft.commands ++ command ∷ []
+pub adds_command : (n : ℕ) (draft : Draft) (command : Command) (commands : List Command) → draft.polygons ≢ [] → length draft.commands < most_commands → commands ≡ draft.commands ++ command ∷ []
     → StatementLeads n (drafted draft) (command_line command) (to_progress (drafted (record { d = draft.d; polygons = draft.polygons; glues = draft.glues; commands = commands })))
 adds_command n draft command commands some room e =
     accepted _ some room tt (ap (λ (cs : List Command). drafted (record { d = draft.d; polygons = draft.polygons; glues = draft.glues; commands = cs })) e) refl

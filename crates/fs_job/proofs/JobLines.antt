@@ -4,17 +4,10 @@ use Rattle.fs_gluing.specs.declared.faults.Fault.{Fault}
 use Rattle.fs_gluing.specs.declared.faults.Fault.TheVariants as faults
 use Rattle.fs_job.specs.Pieces.{lines_of}
 use Rattle.fs_job.specs.Statement.{Statement, field_line, polygon_line, glue_line, command_line, end_line}
-use Rattle.fs_job.specs.Grammar.{Draft, Progress, nothing, headed, drafted, ended, Outcome, to_progress, to_fault, draft_of, IsAllowed, Adds, Leads, not_ascii, skipped, header_line, bad_header, bad_line, too_many, bad_number, bad_field, accepted, LinesLead, IsJob, IsFirstFault, at_line, no_header, no_end}
-use Rattle.fs_job.proofs.Leads.{leads_unique, leads_exists, nothing_or_not}
-
-to_progress_injective : (a b : Progress) → to_progress a ≡ to_progress b → a ≡ b
-to_progress_injective a b e = cc
-
-to_fault_injective : (f g : Fault) → to_fault f ≡ to_fault g → f ≡ g
-to_fault_injective f g e = cc
-
-progress_not_fault : (a : Progress) (f : Fault) → to_progress a ≡ to_fault f → ⊥
-progress_not_fault a f e = cc
+use Rattle.fs_job.specs.Draft.{Draft, Progress, nothing, headed, drafted, ended, Outcome, to_progress, to_fault, draft_of, IsAllowed, Adds}
+use Rattle.fs_job.specs.Grammar.{Leads, LinesLead, IsJob, IsFirstFault, at_line, no_header, no_end}
+use Rattle.fs_job.proofs.Leads.{to_progress_injective, to_fault_injective, progress_not_fault, leads_unique, leads_exists, line_keeps, nothing_or_not}
+use Rattle.fs_job.proofs.Lists.{length_positive}
 
 ended_injective : (a b : Draft) → ended a ≡ ended b → a ≡ b
 ended_injective a b e = cc
@@ -92,10 +85,6 @@ HasPolygonAtEnd headed = Unit {0}
 HasPolygonAtEnd (drafted draft) = Unit {0}
 HasPolygonAtEnd (ended draft) = 0 < length draft.polygons
 
-length_positive : {X : Type 0} (xs : List X) → xs ≢ [] → 0 < length xs
-length_positive [] some = absurd (some refl)
-length_positive (x ∷ xs) some = omega arith
-
 polygon_at_end_added : (n : ℕ) (before : Progress) (s : Statement) (after : Progress) → IsAllowed before s → Adds n (draft_of before) s after → HasPolygonAtEnd after
 polygon_at_end_added n before (field_line d) after may adds = subst HasPolygonAtEnd (sym adds) tt
 polygon_at_end_added n before (polygon_line pairs) after may adds = subst HasPolygonAtEnd (sym adds.2) tt
@@ -108,15 +97,8 @@ polygon_at_end_added n (ended draft) end_line after may adds = absurd may
 
 -- it stays so from line to line
 pub polygon_at_end_after : (n : ℕ) (before : Progress) (line : List ℕ) (after : Progress) → HasPolygonAtEnd before → Leads n before line (to_progress after) → HasPolygonAtEnd after
-polygon_at_end_after n before line after ready (not_ascii a is) = absurd (progress_not_fault after _ is)
-polygon_at_end_after n before line after ready (skipped a b is) = subst HasPolygonAtEnd (sym (to_progress_injective after before is)) ready
-polygon_at_end_after n before line after ready (header_line a b c is) = subst HasPolygonAtEnd (sym (to_progress_injective after headed is)) tt
-polygon_at_end_after n before line after ready (bad_header a b c d is) = absurd (progress_not_fault after _ is)
-polygon_at_end_after n before line after ready (bad_line a b c d is) = absurd (progress_not_fault after _ is)
-polygon_at_end_after n before line after ready (too_many s a b c d is) = absurd (progress_not_fault after _ is)
-polygon_at_end_after n before line after ready (bad_number s f a b c d e is) = absurd (progress_not_fault after _ is)
-polygon_at_end_after n before line after ready (bad_field s a b c d e f is) = absurd (progress_not_fault after _ is)
-polygon_at_end_after n before line after ready (accepted s after' text shows may room sense adds is) = subst HasPolygonAtEnd (sym (to_progress_injective after after' is)) (polygon_at_end_added n before s after' may adds)
+polygon_at_end_after n before line after ready leads =
+    line_keeps n before line HasPolygonAtEnd tt (λ s next may room radicand adds. polygon_at_end_added n before s next may adds) ready after leads
 
 -- ---- a job or a first fault, and not both
 

@@ -7,6 +7,9 @@ pub mod Pairs
 pub mod StatementWords
 pub mod PolygonNumbers
 pub mod Additions
+pub mod Choices
+pub mod StatementOutcomes
 pub mod Leads
 pub mod JobLines
 pub mod LineOutcomes
+pub mod SoundDrafts

@@ -7,9 +7,9 @@ use Rattle.fs_job.specs.declared.job.JobStop.{JobStop}
 use Rattle.fs_job.specs.declared.job.JobStop.TheVariants as stops
 use Rattle.fs_job.specs.Pieces.{words_of, IsText}
 use Rattle.fs_job.specs.Statement.{Statement, SpellsStatement}
-use Rattle.fs_job.specs.Grammar.{Draft, Progress, nothing, ended, Outcome, to_progress, to_fault, Leads, IsFirstFault}
-use Rattle.fs_job.specs.Stage.{progress_of, ReturnsOutcome, StatementLeads}
-use Rattle.fs_job.proofs.Leads.{leads_by_statement}
+use Rattle.fs_job.specs.Draft.{Draft, Progress, nothing, ended, Outcome, to_progress, to_fault, StatementLeads}
+use Rattle.fs_job.specs.Grammar.{Leads, statement, IsFirstFault}
+use Rattle.fs_job.specs.Stage.{progress_of, ReturnsOutcome}
 use Rattle.fs_job.proofs.JobLines.{LedTo, first_fault_at_line}
 use Rattle.fs_gluing.specs.declared.faults.Fault.{Fault}
 
@@ -21,8 +21,8 @@ returns_weaker P Q f (Err stops.NoMemory) came = came
 -- a line after the header, by what it states
 pub returns_after_header : (n : ℕ) (before stated : Progress) (line : List ℕ) (s : Statement) (r : Result Stage JobStop) → before ≡ stated → IsText line → before ≢ nothing → SpellsStatement (words_of line) s
     → ReturnsOutcome (StatementLeads n stated s) r → ReturnsOutcome (Leads n before line) r
-returns_after_header n before stated line s r e text some shows came =
-    returns_weaker (StatementLeads n before s) (Leads n before line) (λ o. leads_by_statement n before line s o text some shows) r
+returns_after_header n before stated line s r e text some spells came =
+    returns_weaker (StatementLeads n before s) (Leads n before line) (λ o leads. statement s text some spells leads) r
     (subst (λ (b : Progress). ReturnsOutcome (StatementLeads n b s) r) (sym e) came)
 
 -- a stage that isn't the last is no end, and one that isn't the first has the header

@@ -1,5 +1,5 @@
 -- Facts about lists, and about tests of numbers and lengths.
-use Rattle.std.proofs.Common.{◌≡◌, ◌≢◌, ℕ, true, false, List, [], ◌∷◌, eqb, length, suc, refl, arith}
+use Rattle.std.proofs.Common.{◌≡◌, ◌≢◌, ℕ, ◌<◌, true, false, List, [], ◌∷◌, ◌++◌, eqb, length, suc, refl, arith}
 use Rattle.std.proofs.lemmas.Bool.Decides.{nat_tests}
 use Rattle.std.specs.List.{AllByRecursion}
 
@@ -14,6 +14,16 @@ tails_equal x y xs ys e = cc
 -- a list with an item isn't empty
 pub item_not_nil : {X : Type 0} (x : X) (xs : List X) → x ∷ xs ≢ []
 item_not_nil x xs e = cc
+
+-- a list around an item isn't empty
+pub nil_not_around : {X : Type 0} (x : X) (xs ys : List X) → ◌≡◌ {A = List X} [] (xs ++ x ∷ ys) → ⊥
+nil_not_around x [] ys e = cc
+nil_not_around x (z ∷ zs) ys e = cc
+
+-- a list that isn't empty has a length above 0
+pub length_positive : {X : Type 0} (xs : List X) → xs ≢ [] → 0 < length xs
+length_positive [] some = absurd (some refl)
+length_positive (x ∷ xs) some = omega arith
 
 -- what each item has, it has weaker
 pub All-weaker : {X : Type 0} {P Q : X → Type 0} (xs : List X) → ((x : X) → P x → Q x) → AllByRecursion P xs → AllByRecursion Q xs

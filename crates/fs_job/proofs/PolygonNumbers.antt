@@ -8,7 +8,7 @@ use Rattle.fs_fraction.specs.declared.number.NumberFault.{NumberFault}
 use Rattle.fs_gluing.specs.declared.shapes.Point.{Point}
 use Rattle.fs_job.specs.Pieces.{pieces}
 use Rattle.fs_job.specs.Statement.{Pair, IsPair, ArePairs, polygon_line, number_texts}
-use Rattle.fs_job.specs.Grammar.{ArePoints, IsNumber, HasBadNumber}
+use Rattle.fs_job.specs.Draft.{ArePoints, IsNumber, HasBadNumber}
 use Rattle.fs_job.specs.Line.{pair_of, pairs_of}
 use Rattle.fs_job.specs.Cuts.{IsCut}
 use Rattle.fs_job.proofs.Lists.{heads_equal, tails_equal}

@@ -2,7 +2,7 @@
 use Rattle.fs_job.specs.declared.job.Form.{Form}
 use Rattle.fs_job.specs.declared.job.Form.TheVariants.{Polygons}
 use Rattle.fs_job.specs.declared.job.Job.{Job}
-use Rattle.fs_job.specs.Grammar.{Draft}
+use Rattle.fs_job.specs.Draft.{Draft}
 use Rattle.fs_gluing.specs.declared.shapes.Shape.{Shape}
 
 -- the shape of a job of polygons

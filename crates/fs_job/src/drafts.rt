@@ -1,9 +1,9 @@
 ghost use Rattle.std.specs.Prelude.{◌≡◌, length};
 ghost use Rattle.fs_job.specs.Pieces.{words_of};
 ghost use Rattle.fs_job.specs.Statement.{ArePairs, field_line, polygon_line, glue_line, command_line, end_line};
-ghost use Rattle.fs_job.specs.Grammar.{headed, drafted};
+ghost use Rattle.fs_job.specs.Draft.{headed, drafted, StatementLeads};
+ghost use Rattle.fs_job.specs.Stage.{kept_draft, ReturnsOutcome};
 ghost use Rattle.fs_job.specs.Line.{pairs_of, statement_of, IsCounted};
-ghost use Rattle.fs_job.specs.Stage.{kept_draft, ReturnsOutcome, StatementLeads};
 
 use crate::draft_job::DraftJob;
 use crate::statements::{Line, Pairs};

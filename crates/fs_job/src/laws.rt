@@ -1,6 +1,7 @@
 ghost use Rattle.std.specs.Prelude.{◌≡◌, ℕ, List};
 ghost use Rattle.fs_gluing.specs.declared.faults.Fault.{Fault};
-ghost use Rattle.fs_job.specs.Grammar.{Draft, IsJob, IsFirstFault};
+ghost use Rattle.fs_job.specs.Draft.{Draft};
+ghost use Rattle.fs_job.specs.Grammar.{IsJob, IsFirstFault};
 
 /// Every list of bytes is one job or has one first fault, and not both. This is a law about the
 /// definitions: the call itself does nothing.

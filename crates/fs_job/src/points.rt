@@ -3,7 +3,7 @@ ghost use Rattle.fs_fraction.specs.Number.{Reads};
 ghost use Rattle.fs_fraction.specs.declared.number.NumberFault.{NumberFault};
 ghost use Rattle.fs_job.specs.Pieces.{words_of};
 ghost use Rattle.fs_job.specs.Statement.{Pair, IsPair, ArePairs, polygon_line, number_texts};
-ghost use Rattle.fs_job.specs.Grammar.{ArePoints, HasBadNumber, number_fault};
+ghost use Rattle.fs_job.specs.Draft.{ArePoints, HasBadNumber, number_fault};
 ghost use Rattle.fs_job.specs.Line.{pair_of, pairs_of};
 
 use crate::statements::Pairs;

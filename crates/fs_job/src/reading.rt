@@ -2,9 +2,10 @@ ghost use Rattle.std.specs.Prelude.{◌≡◌, ◌≢◌, ◌⊎◌, ◌≤◌, 
 ghost use Rattle.fs_gluing.specs.declared.faults.Fault.{Fault};
 ghost use Rattle.fs_gluing.specs.Shape.{IsWithinLimits};
 ghost use Rattle.fs_job.specs.Pieces.{IsText, words_of};
-ghost use Rattle.fs_job.specs.Grammar.{nothing, Leads, IsJob, IsFirstFault};
-ghost use Rattle.fs_job.specs.Reading.{job_draft, form_shape};
+ghost use Rattle.fs_job.specs.Draft.{nothing};
+ghost use Rattle.fs_job.specs.Grammar.{Leads, IsJob, IsFirstFault};
 ghost use Rattle.fs_job.specs.Stage.{ReturnsOutcome, progress_of};
+ghost use Rattle.fs_job.specs.Reading.{job_draft, form_shape};
 
 use crate::drafts::{Stage, add_line, begin};
 use crate::statements::{is_header, read_line};

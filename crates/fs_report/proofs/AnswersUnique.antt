@@ -13,7 +13,7 @@ use Rattle.fs_job.specs.declared.job.Command.{Command}
 use Rattle.fs_job.specs.declared.job.Command.TheVariants.{Check, Stratum}
 use Rattle.fs_report.specs.Area.{GivesArea}
 use Rattle.fs_report.specs.Orders.{AreOrders}
-use Rattle.fs_report.specs.Text.{Answers, AnswersStratum, whole, overflowed, stratum_text, overflow_text}
+use Rattle.fs_report.specs.Text.{Answers, AnswersStratum, whole, overflowed, stratum_text, overflow_line}
 use Rattle.fs_report.proofs.UnscaledArea.{area_unique, area_exists}
 use Rattle.fs_report.proofs.Descending.{descending_unique, descending_exists}
 
@@ -47,7 +47,7 @@ stratum_unique s m n p q surface (whole cones orders g area are all genus is tex
 stratum_unique s m n p q surface (overflowed site is text kind) (whole cones orders g area are all genus is' text' kind') =
     absurd (ok_not_err area site (area_unique s (Ok area) (Err site) is' is))
 stratum_unique s m n p q surface (overflowed site is text kind) (overflowed site' is' text' kind') =
-    (text ∙ (ap (λ (x : Site). overflow_text (codes "stratum") x) (same_site site site' (area_unique s (Err site) (Err site') is is')) ∙ sym text'), kind ∙ sym kind')
+    (text ∙ (ap (λ (x : Site). overflow_line (codes "stratum") x) (same_site site site' (area_unique s (Err site) (Err site') is is')) ∙ sym text'), kind ∙ sym kind')
 
 stratum_exists : (s : GluedPolygons) → IsSurface s → ((text : List ℕ) (partial : Bool) → ¬ AnswersStratum s text partial) → ⊥
 stratum_exists s surface none = area_exists s by_area

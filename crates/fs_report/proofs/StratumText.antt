@@ -8,7 +8,7 @@ use Rattle.fs_stratum.specs.declared.cones.Cone.{Cone}
 use Rattle.fs_stratum.specs.Cones.{AreCones, IsGenus, HasGenus}
 use Rattle.fs_report.specs.Area.{GivesArea}
 use Rattle.fs_report.specs.Orders.{AreOrders}
-use Rattle.fs_report.specs.Text.{AnswersStratum, whole, overflowed, stratum_line, stratum_text, vertex_lines, overflow_text}
+use Rattle.fs_report.specs.Text.{AnswersStratum, whole, overflowed, stratum_line, stratum_text, vertex_lines, overflow_line}
 
 -- vertices, orders and genus, and the text that names them
 abbrev pub AreSpelled : GluedPolygons → Fraction → List ℕ → Type 0
@@ -32,5 +32,5 @@ pub whole_answer : (s : GluedPolygons) (result : Result Fraction Site) (area : F
 whole_answer s result area text has is told = whole told.0 told.1 told.2 area told.3 told.4 told.5 (subst (GivesArea s) is has) told.6 refl
 
 -- the text where the area overflows
-pub overflowed_answer : (s : GluedPolygons) (result : Result Fraction Site) (site : Site) (text : List ℕ) → GivesArea s result → result ≡ Err site → text ≡ overflow_text (codes "stratum") site → AnswersStratum s text true
+pub overflowed_answer : (s : GluedPolygons) (result : Result Fraction Site) (site : Site) (text : List ℕ) → GivesArea s result → result ≡ Err site → text ≡ overflow_line (codes "stratum") site → AnswersStratum s text true
 overflowed_answer s result site text has is line = overflowed site (subst (GivesArea s) is has) line refl

@@ -1,5 +1,5 @@
 ghost use Rattle.std.specs.Prelude.{◌≡◌, ◌≤◌, length, sum_by, IfOk, string_bytes};
-ghost use Rattle.fs_report.specs.Text.{check_text, Answers};
+ghost use Rattle.fs_report.specs.Text.{check_line, Answers};
 
 use crate::stratum::answer_stratum;
 use fs_fraction::NoMemory;
@@ -29,7 +29,7 @@ fn count_sides(surface: &Surface) -> u16
 
 // The line with these two numbers.
 fn counts_line(alloc: Global, polygons: u16, sides: u16) -> Result<String, AllocError>
-    ensures { IfOk result (λ line. string_bytes line ≡ check_text polygons sides) }
+    ensures { IfOk result (λ line. string_bytes line ≡ check_line polygons sides) }
 {
     format!(in alloc; "check polygons {polygons} sides {sides}\n")
 }
@@ -37,7 +37,7 @@ fn counts_line(alloc: Global, polygons: u16, sides: u16) -> Result<String, Alloc
 // The line that counts the polygons and the sides.
 fn check_line(alloc: Global, surface: &Surface) -> Result<String, NoMemory>
     ensures { IfOk result (λ line.
-        string_bytes line ≡ check_text (length surface.now.polygons) (sum_by length surface.now.polygons)) }
+        string_bytes line ≡ check_line (length surface.now.polygons) (sum_by length surface.now.polygons)) }
 {
     let sides = count_sides(surface);
     let line = counts_line(alloc, surface.polygons(), sides)?;

@@ -1,7 +1,7 @@
 use Rattle.std.proofs.Common.{ap}
-use Rattle.fs_job.specs.Grammar.{headed, drafted}
-use Rattle.fs_job.specs.Line.{statement_of}
+use Rattle.fs_job.specs.Draft.{headed, drafted}
 use Rattle.fs_job.specs.Stage.{kept_draft, progress_of}
+use Rattle.fs_job.specs.Line.{statement_of}
 use Rattle.fs_job.proofs.LineOutcomes.{returns_after_header}
 use Rattle.fs_job.proofs.reading.after_header.Goals as goal
 

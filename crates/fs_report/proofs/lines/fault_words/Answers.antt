@@ -1,6 +1,6 @@
 use Rattle.std.proofs.Common.{◌∙◌, append_assoc}
 use Rattle.std.proofs.lemmas.Result.{IfOk-weaker}
-use Rattle.fs_report.proofs.lines.refusal.Goals as goal
+use Rattle.fs_report.proofs.lines.fault_words.Goals as goal
 
 pub returns-in-NotConvex : goal.returns-in-NotConvex
 returns-in-NotConvex c = rw c.in-NotConvex.is (IfOk-weaker c.format-in-NotConvex.result _ _ (λ line e. e ∙ simp append_assoc) c.format-in-NotConvex.ensures.ok)
