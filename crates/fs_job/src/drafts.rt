@@ -6,9 +6,9 @@ ghost use Rattle.fs_job.specs.Stage.{kept_draft, ReturnsOutcome};
 ghost use Rattle.fs_job.specs.Line.{pairs_of, statement_of, IsCounted};
 
 use crate::draft_job::DraftJob;
-use crate::statements::{Line, Pairs};
 use crate::job::{Command, JobStop};
 use crate::points::read_points;
+use crate::statements::{Line, Pairs};
 use fs_gluing::{Fault, Glue};
 use fs_plane::Corner;
 use fs_quadratic::Field;

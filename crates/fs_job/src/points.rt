@@ -6,9 +6,9 @@ ghost use Rattle.fs_job.specs.Statement.{Pair, IsPair, ArePairs, polygon_line, n
 ghost use Rattle.fs_job.specs.Draft.{ArePoints, HasBadNumber, number_fault};
 ghost use Rattle.fs_job.specs.Line.{pair_of, pairs_of};
 
-use crate::statements::Pairs;
 use crate::job::JobStop;
 use crate::pieces::cut;
+use crate::statements::Pairs;
 use crate::words::next_word;
 use fs_fraction::{NumberFault, read_number};
 use fs_gluing::{Fault, Point, Sequence};

@@ -8,9 +8,9 @@ ghost use Rattle.fs_job.specs.Stage.{ReturnsOutcome, progress_of};
 ghost use Rattle.fs_job.specs.Reading.{job_draft, form_shape};
 
 use crate::drafts::{Stage, add_line, begin};
-use crate::statements::{is_header, read_line};
 use crate::job::{Job, JobStop};
 use crate::lines::next_line;
+use crate::statements::{is_header, read_line};
 use crate::words::{is_text, next_word};
 use fs_gluing::Fault;
 use std::alloc::Global;

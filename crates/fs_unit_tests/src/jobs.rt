@@ -1,7 +1,6 @@
-use crate::job::{Command, Form, Job, JobStop};
-use crate::{print_site, read_job};
 use fs_fraction::{Frac, read_number};
 use fs_gluing::{Fault, Glue};
+use fs_job::{Command, Form, Job, JobStop, print_site, read_job};
 use fs_plane::{Corner, Site};
 use std::alloc::{AllocError, Global};
 use std::process::Abort;
