@@ -8,7 +8,7 @@ use Rattle.fs_gluing.specs.Surface.{GluedPolygons, IsSurface}
 use Rattle.fs_gluing.proofs.SomeSurface.{some_surface}
 use Rattle.fs_job.specs.Draft.{Draft}
 use Rattle.fs_job.specs.Grammar.{IsJob}
-use Rattle.fs_job.proofs.Lists.{length_positive}
+use Rattle.fs_lists.proofs.Equal.{length-positive}
 use Rattle.fs_job.proofs.SoundDrafts.{job_sound}
 use Rattle.fs_cli.specs.Answer.{draft_shape}
 
@@ -18,4 +18,4 @@ pub surface_of_job : (bytes : List ℕ) (draft : Draft) → IsJob bytes draft �
 surface_of_job bytes draft reads passed =
     let sound = job_sound bytes draft reads in
     some_surface draft.d (draft_shape draft) passed sound.0.radicand
-    (record { some_polygon = length_positive draft.polygons sound.1; polygons = sound.0.polygons; sides = sound.0.sides }) sound.0.points
+    (record { some_polygon = length-positive draft.polygons sound.1; polygons = sound.0.polygons; sides = sound.0.sides }) sound.0.points

@@ -1,6 +1,6 @@
 -- What a statement adds to a draft.
-use Rattle.std.proofs.Common.{◌≡◌, ◌≢◌, ℕ, ◌+◌, ◌<◌, ◌≤◌, ◌⊎◌, List, [], ◌∷◌, ◌++◌, Err, inl, inr, length, sum_by, refl, sym, ap, ◌∙◌, subst, arith, zero-add}
-use Rattle.std.proofs.lemmas.List.Sums.{sum_by-append}
+use Rattle.std.proofs.Common.{◌≡◌, ◌≢◌, ℕ, ◌+◌, ◌<◌, ◌≤◌, ◌⊎◌, List, [], ◌∷◌, ◌++◌, Err, inl, inr, length, sum_by, refl, sym, ap, ◌∙◌, subst, arith}
+use Rattle.fs_lists.proofs.Sums.{lengths-append_one}
 use Rattle.fs_quadratic.specs.Radicand.{IsRadicand}
 use Rattle.fs_fraction.specs.declared.number.NumberFault.{NumberFault}
 use Rattle.fs_plane.specs.declared.corners.Corner.{Corner}
@@ -58,14 +58,10 @@ leads_to_bad_number n draft s e may room told = elim told [
   | inr found ↦ subst (λ (x : JobStop). ReturnsOutcome (StatementLeads n (drafted draft) s) (Err x)) (sym found.1) (bad_number found.0 may room found.2 refl)
 ]
 
--- the number of sides with a polygon more
-pub sides_append : (polygons : List (List Point)) (points : List Point) → sum_by length (polygons ++ points ∷ []) ≡ sum_by length polygons + length points
-sides_append polygons points = sum_by-append length polygons (points ∷ []) ∙ ap (λ (k : ℕ). sum_by length polygons + k) (zero-add (length points))
-
 -- the number of sides that is kept
 pub sides_counted : (polygons after : List (List Point)) (words : List (List ℕ)) (points : List Point) (sides count : ℕ) → sides ≡ sum_by length polygons → count ≡ length words → ArePoints (pairs_of words) points
     → after ≡ polygons ++ points ∷ [] → sides + count ≡ sum_by length after
 sides_counted polygons after words points sides count e f read is =
-    let total = ap (sum_by length) is ∙ sides_append polygons points in
+    let total = ap (sum_by length) is ∙ lengths-append_one polygons points in
     let long = length-points (pairs_of words) points read in
     omega (arith, length-pairs_of words)

@@ -7,7 +7,7 @@ use Rattle.fs_job.specs.Statement.{Statement, field_line, polygon_line, glue_lin
 use Rattle.fs_job.specs.Draft.{Draft, Progress, nothing, headed, drafted, ended, Outcome, to_progress, to_fault, draft_of, IsAllowed, Adds}
 use Rattle.fs_job.specs.Grammar.{Leads, LinesLead, IsJob, IsFirstFault, at_line, no_header, no_end}
 use Rattle.fs_job.proofs.Leads.{to_progress_injective, to_fault_injective, progress_not_fault, leads_unique, leads_exists, line_keeps, nothing_or_not}
-use Rattle.fs_job.proofs.Lists.{length_positive}
+use Rattle.fs_lists.proofs.Equal.{length-positive}
 
 ended_injective : (a b : Draft) → ended a ≡ ended b → a ≡ b
 ended_injective a b e = cc
@@ -92,7 +92,7 @@ polygon_at_end_added n before (glue_line one two) after may adds = subst HasPoly
 polygon_at_end_added n before (command_line command) after may adds = subst HasPolygonAtEnd (sym adds) tt
 polygon_at_end_added n nothing end_line after may adds = absurd may
 polygon_at_end_added n headed end_line after may adds = absurd may
-polygon_at_end_added n (drafted draft) end_line after may adds = subst HasPolygonAtEnd (sym adds) (length_positive draft.polygons may)
+polygon_at_end_added n (drafted draft) end_line after may adds = subst HasPolygonAtEnd (sym adds) (length-positive draft.polygons may)
 polygon_at_end_added n (ended draft) end_line after may adds = absurd may
 
 -- it stays so from line to line

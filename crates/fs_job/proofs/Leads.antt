@@ -8,7 +8,7 @@ use Rattle.fs_job.specs.Draft.{Draft, Progress, nothing, headed, drafted, ended,
 use Rattle.fs_job.specs.Draft as statements
 use Rattle.fs_job.specs.Grammar.{header, Leads, not_ascii, skipped, header_line, bad_header, bad_line, statement}
 use Rattle.fs_job.proofs.Choices.{Unique, Choice, choice_unique, Is, is_unique}
-use Rattle.fs_job.proofs.Lists.{nil_not_around}
+use Rattle.fs_lists.proofs.Equal.{nil_not_around}
 use Rattle.fs_job.proofs.StatementOutcomes.{statement_leads_unique, statement_leads_exists}
 use Rattle.fs_job.proofs.StatementWords.{statement_unique, nil_spells_none}
 

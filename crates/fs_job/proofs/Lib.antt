@@ -1,8 +1,7 @@
-pub mod Lists
+pub mod ByteTests
 pub mod TextPieces
 pub mod TextLines
 pub mod TextWords
-pub mod Digits
 pub mod Pairs
 pub mod StatementWords
 pub mod PolygonNumbers

@@ -3,7 +3,7 @@ use Rattle.std.proofs.Common.{◌≡◌, ◌≢◌, ℕ, ◌+◌, List, [], ◌�
 use Rattle.fs_job.specs.Pieces.{pieces}
 use Rattle.fs_job.specs.Statement.{Pair, IsPair, ArePairs}
 use Rattle.fs_job.specs.Line.{pair_of_pieces, pair_of, pairs_of}
-use Rattle.fs_job.proofs.Lists.{heads_equal, tails_equal}
+use Rattle.fs_lists.proofs.Equal.{heads_equal, tails_equal}
 
 pieces_of_pair : (ps : List (List ℕ)) (x y : List ℕ) → ps ≡ x ∷ y ∷ [] → ps ≡ (pair_of_pieces ps).x ∷ (pair_of_pieces ps).y ∷ []
 pieces_of_pair ps x y e = subst (λ (qs : List (List ℕ)). qs ≡ (pair_of_pieces qs).x ∷ (pair_of_pieces qs).y ∷ []) (sym e) refl

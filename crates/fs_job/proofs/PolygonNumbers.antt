@@ -11,7 +11,10 @@ use Rattle.fs_job.specs.Statement.{Pair, IsPair, ArePairs, polygon_line, number_
 use Rattle.fs_job.specs.Draft.{ArePoints, IsNumber, HasBadNumber}
 use Rattle.fs_job.specs.Line.{pair_of, pairs_of}
 use Rattle.fs_job.specs.Cuts.{IsCut}
-use Rattle.fs_job.proofs.Lists.{heads_equal, tails_equal}
+use Rattle.fs_lists.proofs.First.{first_of_prefix, first_of_suffix}
+use Rattle.fs_lists.proofs.Results.{ok_not_err}
+use Rattle.fs_fraction.proofs.Readings.{same_read}
+use Rattle.fs_lists.proofs.Equal.{heads_equal, tails_equal}
 use Rattle.fs_job.proofs.TextPieces.{uncut_not_two, pieces_of_cut, single_piece}
 
 -- ---- the two texts of a pair
@@ -31,33 +34,24 @@ pair_texts word none (Some parts) cut pair =
 
 -- ---- the first text that is no number
 
+-- a text that is read with a fault is no number
+pub number_not_bad : (text : List ℕ) (fault : NumberFault) → IsNumber text → Reads text (Err fault) → ⊥
+number_not_bad text fault a b = ok_not_err a.0 fault (same_read text (Err fault) (Ok a.0) b a.1)
+
 -- the first of two texts is no number
 pub bad_number_first : (x y : List ℕ) (fault : NumberFault) → Reads x (Err fault) → HasBadNumber (x ∷ y ∷ []) fault
-bad_number_first x y fault fails = record { before = []; text = x; after = y ∷ []; whole = refl; passed = tt; fails = fails }
+bad_number_first x y fault fails = (x, record { before = []; after = y ∷ []; whole = refl; passed = tt; fails = λ is. number_not_bad x fault is fails }, fails)
 
 -- the first of two texts is a number, and the second isn't
 pub bad_number_second : (x y : List ℕ) (number : Fraction) (fault : NumberFault) → Reads x (Ok number) → Reads y (Err fault) → HasBadNumber (x ∷ y ∷ []) fault
-bad_number_second x y number fault read fails = record { before = x ∷ []; text = y; after = []; whole = refl; passed = ((number, read), tt); fails = fails }
+bad_number_second x y number fault read fails =
+    (y, record { before = x ∷ []; after = []; whole = refl; passed = ((number, read), tt); fails = λ is. number_not_bad y fault is fails }, fails)
 
 bad_number_append : (texts more : List (List ℕ)) (fault : NumberFault) → HasBadNumber texts fault → HasBadNumber (texts ++ more) fault
-bad_number_append texts more fault u = record {
-  before = u.before;
-  text = u.text;
-  after = u.after ++ more;
-  whole = ap (λ (ts : List (List ℕ)). ts ++ more) u.whole ∙ append_assoc u.before (u.text ∷ u.after) more;
-  passed = u.passed;
-  fails = u.fails;
-}
+bad_number_append texts more fault u = (u.0, first_of_prefix IsNumber texts more u.0 u.1, u.2)
 
 bad_number_after_pair : (x y : List ℕ) (texts : List (List ℕ)) (fault : NumberFault) → IsNumber x → IsNumber y → HasBadNumber texts fault → HasBadNumber (x ∷ y ∷ texts) fault
-bad_number_after_pair x y texts fault a b u = record {
-  before = x ∷ y ∷ u.before;
-  text = u.text;
-  after = u.after;
-  whole = ap (λ (ts : List (List ℕ)). x ∷ y ∷ ts) u.whole;
-  passed = (a, (b, u.passed));
-  fails = u.fails;
-}
+bad_number_after_pair x y texts fault a b u = (u.0, first_of_suffix IsNumber (x ∷ y ∷ []) texts u.0 (a, (b, tt)) u.1, u.2)
 
 -- ---- the points so far
 

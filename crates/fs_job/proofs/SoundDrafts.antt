@@ -2,18 +2,19 @@
 use Rattle.std.proofs.Common.{◌≡◌, ◌≢◌, ℕ, ◌+◌, ◌*◌, ◌<◌, ◌≤◌, pos, ◌*ℤ◌, Option, Some, None, Result, Ok, Err, List, [], ◌∷◌, ◌++◌, length, sum_by, refl, sym, ap, ◌∙◌, subst, arith, length-append, zero-add}
 use Rattle.std.specs.List.{AllByRecursion}
 use Rattle.std.specs.Str.Parse.{digits_value}
-use Rattle.fs_quadratic.proofs.Firsts.{All-append, All-front, All-back}
+use Rattle.fs_lists.proofs.Results.{ok_equal, ok_not_err}
+use Rattle.fs_lists.proofs.All.{All-append, All-prefix, All-suffix}
 use Rattle.fs_quadratic.specs.Radicand.{IsRadicand}
 use Rattle.fs_fraction.proofs.Lowest.{reduced-positive}
 use Rattle.fs_fraction.specs.Fraction.{Fraction}
-use Rattle.fs_fraction.specs.Number.{Reads, number, too_wide, undefined, foreign as unspelled, Written, Rational, Root, Both, IsDefined, over_value, under_value, under_runs, value}
+use Rattle.fs_fraction.specs.Number.{Reads, number, Written, Rational, Root, Both, IsDefined, over_value, under_value, under_runs, value, wide_number, zero_denominator, no_number}
 use Rattle.fs_gluing.specs.declared.shapes.Point.{Point}
 use Rattle.fs_gluing.proofs.SomeSurface.{HasDenominators}
 use Rattle.fs_job.specs.Draft.{Draft, Progress, nothing, headed, drafted, ended, draft_of, IsAllowed, HasRoom, HasRadicand, ArePoints, Adds, to_progress}
 use Rattle.fs_job.specs.Grammar.{Leads, LinesLead, IsJob}
 use Rattle.fs_job.specs.Pieces.{lines_of}
 use Rattle.fs_job.specs.Statement.{Pair, Statement, field_line, polygon_line, glue_line, command_line, end_line}
-use Rattle.fs_job.proofs.Additions.{sides_append}
+use Rattle.fs_lists.proofs.Sums.{lengths-append_one}
 use Rattle.fs_job.proofs.Leads.{line_keeps}
 use Rattle.fs_job.proofs.PolygonNumbers.{length-points}
 
@@ -33,20 +34,14 @@ value_positive (Both minus a minus' b) d = reduced-positive
     (record { p = over_value minus a *ℤ pos (under_value b.under); q = over_value minus' b *ℤ pos (under_value a.under) })
     (under_value a.under * under_value b.under)
     (product_positive (under_value a.under) (under_value b.under)
-    (under_positive a.under (All-front _ (under_runs a.under) (under_runs b.under) d))
-    (under_positive b.under (All-back _ (under_runs a.under) (under_runs b.under) d)))
-
-same_value : {E : Type 0} (x y : Fraction) → ◌≡◌ {A = Result Fraction E} (Ok x) (Ok y) → x ≡ y
-same_value x y e = cc
-
-no_value : {E : Type 0} (x : Fraction) (fault : E) → ◌≡◌ {A = Result Fraction E} (Ok x) (Err fault) → ⊥
-no_value x fault e = cc
+    (under_positive a.under (All-prefix _ (under_runs a.under) (under_runs b.under) d))
+    (under_positive b.under (All-suffix _ (under_runs a.under) (under_runs b.under) d)))
 
 reads_positive : (text : List ℕ) (x : Fraction) → Reads text (Ok x) → 0 < x.den
-reads_positive text x (number w spells narrow defined is) = subst (λ (y : Fraction). 0 < y.den) (sym (same_value x (value w) is)) (value_positive w defined)
-reads_positive text x (too_wide w spells wide is) = absurd (no_value x _ is)
-reads_positive text x (undefined w spells narrow not is) = absurd (no_value x _ is)
-reads_positive text x (unspelled none is) = absurd (no_value x _ is)
+reads_positive text x (number w spells narrow defined is) = subst (λ (y : Fraction). 0 < y.den) (sym (ok_equal x (value w) is)) (value_positive w defined)
+reads_positive text x (wide_number w spells wide is) = absurd (ok_not_err x _ is)
+reads_positive text x (zero_denominator w spells narrow not is) = absurd (ok_not_err x _ is)
+reads_positive text x (no_number none is) = absurd (ok_not_err x _ is)
 
 points_positive : (pairs : List Pair) (points : List Point) → ArePoints pairs points → AllByRecursion HasDenominators points
 points_positive [] [] a = tt
@@ -75,7 +70,7 @@ polygon_added : (draft : Draft) (pairs : List Pair) (points : List Point) → Is
 polygon_added draft pairs points sound room are = record {
   radicand = sound.radicand;
   polygons = let few = room.0 in omega (arith, length-append draft.polygons (points ∷ []));
-  sides = let few = room.1 in let same = length-points pairs points are in omega (arith, sides_append draft.polygons points);
+  sides = let few = room.1 in let same = length-points pairs points are in omega (arith, lengths-append_one draft.polygons points);
   points = All-append (AllByRecursion HasDenominators) draft.polygons (points ∷ []) sound.points (points_positive pairs points are, tt);
 }
 

@@ -2,7 +2,7 @@
 use Rattle.std.proofs.Common.{◌≡◌, ◌≢◌, ℕ, List, [], ◌∷◌, ◌++◌, Result, Ok, Err, inl, inr, refl, sym, ap, ◌∙◌, subst}
 use Rattle.std.specs.List.{AllByRecursion}
 use Rattle.fs_fraction.specs.Fraction.{Fraction}
-use Rattle.fs_fraction.specs.Number.{Reads, number, too_wide, undefined, foreign}
+use Rattle.fs_fraction.specs.Number.{Reads, number, wide_number, zero_denominator, no_number}
 use Rattle.fs_fraction.specs.declared.number.NumberFault.{NumberFault}
 use Rattle.fs_fraction.proofs.Readings.{same_read}
 use Rattle.fs_gluing.specs.declared.faults.Fault.TheVariants as faults
@@ -10,56 +10,33 @@ use Rattle.fs_gluing.specs.declared.shapes.Point.{Point}
 use Rattle.fs_job.specs.Statement.{Pair, Statement, field_line, polygon_line, glue_line, command_line, end_line, number_texts}
 use Rattle.fs_job.specs.Draft.{Draft, Progress, drafted, Outcome, to_progress, to_fault, draft_of, IsAllowed, HasRoom, IsNumber, HasBadNumber, number_fault, HasRadicand, ArePoints, Adds, StatementLeads, bad_line, too_many, bad_number, bad_field, accepted}
 use Rattle.fs_job.proofs.Choices.{Unique, Choice, choice_unique, Is, is_unique}
-use Rattle.fs_job.proofs.Lists.{heads_equal, tails_equal, nil_not_around}
+use Rattle.fs_lists.specs.First.{IsFirstWithout}
+use Rattle.fs_lists.proofs.First.{first_not_all, first_unique, first_or_all}
+use Rattle.fs_lists.proofs.Results.{ok_equal, err_equal}
 use Rattle.fs_job.proofs.PolygonNumbers.{points_are_numbers, points_exist}
 
 -- ---- numbers
 
 reading_exists : (text : List ℕ) → ((r : Result Fraction NumberFault) → ¬ Reads text r) → ⊥
 reading_exists text none =
-    none _ (foreign (λ w spells. none _ (too_wide w spells (λ narrow. none _ (undefined w spells narrow (λ defined. none _ (number w spells narrow defined refl)) refl)) refl)) refl)
-
--- one text more: it is a number or not, and so are the others
-bad_number_step : (t : List ℕ) (ts : List (List ℕ)) → (¬ AllByRecursion IsNumber ts → ((fault : NumberFault) → ¬ HasBadNumber ts fault) → ⊥)
-    → ¬ AllByRecursion IsNumber (t ∷ ts) → ((fault : NumberFault) → ¬ HasBadNumber (t ∷ ts) fault) → (r : Result Fraction NumberFault) → ¬ Reads t r
-bad_number_step t ts more none first (Ok x) read = more (λ all. none ((x, read), all)) (λ fault u. first fault (record {
-  before = t ∷ u.before;
-  text = u.text;
-  after = u.after;
-  whole = ap (λ (xs : List (List ℕ)). t ∷ xs) u.whole;
-  passed = ((x, read), u.passed);
-  fails = u.fails;
-}))
-bad_number_step t ts more none first (Err fault) read = first fault (record { before = []; text = t; after = ts; whole = refl; passed = tt; fails = read })
-
-numbers_or_bad : (texts : List (List ℕ)) → ¬ AllByRecursion IsNumber texts → ((fault : NumberFault) → ¬ HasBadNumber texts fault) → ⊥
-numbers_or_bad [] none first = none tt
-numbers_or_bad (t ∷ ts) none first = reading_exists t (bad_number_step t ts (numbers_or_bad ts) none first)
-
-ok_not_err : (x : Fraction) (fault : NumberFault) → ◌≡◌ {A = Result Fraction NumberFault} (Ok x) (Err fault) → ⊥
-ok_not_err x fault e = cc
-
-number_not_bad : (text : List ℕ) (fault : NumberFault) → IsNumber text → Reads text (Err fault) → ⊥
-number_not_bad text fault a b = ok_not_err a.0 fault (same_read text (Err fault) (Ok a.0) b a.1)
-
-fault_of_text_unique : (text : List ℕ) (f g : NumberFault) → Reads text (Err f) → Reads text (Err g) → f ≡ g
-fault_of_text_unique text f g a b = err_injective f g (same_read text (Err g) (Err f) b a)
-  where
-    err_injective : (f g : NumberFault) → ◌≡◌ {A = Result Fraction NumberFault} (Err f) (Err g) → f ≡ g
-    err_injective f g e = cc
+    none _ (no_number (λ w spells. none _ (wide_number w spells (λ narrow. none _ (zero_denominator w spells narrow (λ defined. none _ (number w spells narrow defined refl)) refl)) refl)) refl)
 
 -- all texts are numbers, or a first one isn't
-numbers_not_bad : (texts before after : List (List ℕ)) (text : List ℕ) (fault : NumberFault) → texts ≡ before ++ text ∷ after → AllByRecursion IsNumber texts → Reads text (Err fault) → ⊥
-numbers_not_bad [] before after text fault e all fails = nil_not_around text before after e
-numbers_not_bad (t ∷ ts) [] after text fault e all fails =
-    number_not_bad text fault (subst IsNumber (heads_equal t text ts after e) all.0) fails
-numbers_not_bad (t ∷ ts) (b ∷ bs) after text fault e all fails = numbers_not_bad ts bs after text fault (tails_equal t b ts (bs ++ text ∷ after) e) all.1 fails
+numbers_or_bad : (texts : List (List ℕ)) → ¬ AllByRecursion IsNumber texts → ((fault : NumberFault) → ¬ HasBadNumber texts fault) → ⊥
+numbers_or_bad texts not_all none = first_or_all IsNumber texts (λ text first. reading_exists text (by_reading text first)) not_all
+  where
+    by_reading : (text : List ℕ) → IsFirstWithout IsNumber texts text → (r : Result Fraction NumberFault) → ¬ Reads text r
+    by_reading text first (Ok x) read = first.fails (x, read)
+    by_reading text first (Err fault) read = none fault (text, first, read)
 
-bad_number_unique : (xs ys xs' ys' : List (List ℕ)) (t t' : List ℕ) (f g : NumberFault) → xs ++ t ∷ ys ≡ xs' ++ t' ∷ ys' → AllByRecursion IsNumber xs → AllByRecursion IsNumber xs' → Reads t (Err f) → Reads t' (Err g) → f ≡ g
-bad_number_unique [] ys [] ys' t t' f g e a b p q = fault_of_text_unique t' f g (subst (λ (u : List ℕ). Reads u (Err f)) (heads_equal t t' ys ys' e) p) q
-bad_number_unique [] ys (x ∷ xs') ys' t t' f g e a b p q = absurd (number_not_bad t f (subst IsNumber (sym (heads_equal t x ys (xs' ++ t' ∷ ys') e)) b.0) p)
-bad_number_unique (x ∷ xs) ys [] ys' t t' f g e a b p q = absurd (number_not_bad t' g (subst IsNumber (heads_equal x t' (xs ++ t ∷ ys) ys' e) a.0) q)
-bad_number_unique (x ∷ xs) ys (x' ∷ xs') ys' t t' f g e a b p q = bad_number_unique xs ys xs' ys' t t' f g (tails_equal x x' (xs ++ t ∷ ys) (xs' ++ t' ∷ ys') e) a.1 b.1 p q
+-- and not both
+numbers_not_bad : (texts : List (List ℕ)) (fault : NumberFault) → AllByRecursion IsNumber texts → HasBadNumber texts fault → ⊥
+numbers_not_bad texts fault all u = first_not_all IsNumber texts u.0 u.1 all
+
+bad_number_unique : (texts : List (List ℕ)) (f g : NumberFault) → HasBadNumber texts f → HasBadNumber texts g → f ≡ g
+bad_number_unique texts f g u v =
+    let same = first_unique IsNumber texts u.0 v.0 u.1 v.1 in
+    err_equal f g (same_read v.0 (Err g) (Err f) v.2 (subst (λ (text : List ℕ). Reads text (Err f)) same u.2))
 
 -- ---- points
 
@@ -71,12 +48,9 @@ points_unique [] (p ∷ ps) qs a b = absurd a
 points_unique (r ∷ rs) [] qs a b = absurd a
 points_unique (r ∷ rs) (p ∷ ps) [] a b = absurd b
 points_unique (r ∷ rs) (p ∷ ps) (q ∷ qs) a b =
-    let x = same_ok p.x q.x (same_read r.x (Ok q.x) (Ok p.x) b.0 a.0) in
-    let y = same_ok p.y q.y (same_read r.y (Ok q.y) (Ok p.y) b.1 a.1) in
+    let x = ok_equal p.x q.x (same_read r.x (Ok q.x) (Ok p.x) b.0 a.0) in
+    let y = ok_equal p.y q.y (same_read r.y (Ok q.y) (Ok p.y) b.1 a.1) in
     ap (λ (u : Fraction). (record { x = u; y = p.y }) ∷ ps) x ∙ (ap (λ (u : Fraction). (record { x = q.x; y = u }) ∷ ps) y ∙ ap (λ (us : List Point). q ∷ us) (points_unique rs ps qs a.2 b.2))
-  where
-    same_ok : (x y : Fraction) → ◌≡◌ {A = Result Fraction NumberFault} (Ok x) (Ok y) → x ≡ y
-    same_ok x y e = cc
 
 -- what a statement adds is one at most
 pub adds_unique : (n : ℕ) (draft : Draft) (s : Statement) (b c : Progress) → Adds n draft s b → Adds n draft s c → b ≡ c
@@ -130,14 +104,12 @@ module _ (n : ℕ) (before : Progress) (s : Statement) where
 
   bad_unique : Unique AtBad
   bad_unique o o' p q =
-      let a = p.1 in
-      let b = q.1 in
-      let same = bad_number_unique a.before a.after b.before b.after a.text b.text p.0 q.0 (sym a.whole ∙ b.whole) a.passed b.passed a.fails b.fails in
+      let same = bad_number_unique (number_texts s) p.0 q.0 p.1 q.1 in
       p.2 ∙ (ap (λ (f : NumberFault). to_fault (number_fault n f)) same ∙ sym q.2)
 
   numbers_unique : Unique Numbers
   numbers_unique = choice_unique HasBad (AllByRecursion IsNumber (number_texts s)) AtBad Radicand
-      (λ u all. numbers_not_bad (number_texts s) u.1.before u.1.after u.1.text u.0 u.1.whole all u.1.fails) bad_unique radicand_unique
+      (λ u all. numbers_not_bad (number_texts s) u.0 all u.1) bad_unique radicand_unique
 
   -- before them: whether there is room
   abbrev Room : Outcome → Type 0

@@ -7,11 +7,18 @@ use Rattle.fs_job.specs.declared.job.Command.{Command}
 use Rattle.fs_job.specs.declared.job.Command.TheVariants.{Check, Stratum}
 use Rattle.fs_job.specs.Statement.{SpellsNumeral, SpellsCorner, ArePairs, Statement, field_line, polygon_line, glue_line, command_line, end_line, SpellsStatement}
 use Rattle.fs_job.specs.Line.{SpellsField, SpellsGlue}
-use Rattle.fs_job.proofs.Lists.{heads_equal, tails_equal}
-use Rattle.fs_job.proofs.Digits.{numeral_unique, numeral_unique_along}
+use Rattle.fs_lists.proofs.Equal.{heads_equal, tails_equal}
 use Rattle.fs_job.proofs.Pairs.{pairs_unique}
 
--- ---- corners
+-- ---- numerals and corners
+
+-- a text spells one number at most
+pub numeral_unique : (most : ℕ) (text : List ℕ) (m n : ℕ) → SpellsNumeral most text m → SpellsNumeral most text n → m ≡ n
+numeral_unique most text m n s t = s.value ∙ sym t.value
+
+-- two equal texts spell one number
+pub numeral_unique_along : (most : ℕ) (text text' : List ℕ) (m n : ℕ) → text ≡ text' → SpellsNumeral most text m → SpellsNumeral most text' n → m ≡ n
+numeral_unique_along most text text' m n e s t = numeral_unique most text m n s (subst (λ u. SpellsNumeral most u n) (sym e) t)
 
 -- a text spells one corner at most
 pub corner_unique : (text : List ℕ) (c e : Corner) → SpellsCorner text c → SpellsCorner text e → c ≡ e

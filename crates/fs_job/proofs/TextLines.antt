@@ -4,8 +4,8 @@ use denote.Ref.{Bor}
 use Rattle.std.specs.List.{AllByRecursion}
 use Rattle.fs_job.specs.Pieces.{pieces, is_first_byte, without_returns, lines_of}
 use Rattle.fs_job.specs.Cuts.{IsCut, DropsReturn}
-use Rattle.fs_quadratic.proofs.Firsts.{All-front}
-use Rattle.fs_job.proofs.Lists.{eqb-false}
+use Rattle.fs_lists.proofs.All.{All-prefix}
+use Rattle.fs_job.proofs.ByteTests.{eqb-false}
 use Rattle.fs_job.proofs.TextPieces.{pieces_of_cut, pieces_of_uncut}
 
 and_false : (t : Bool) → (t && false) ≡ false
@@ -49,7 +49,7 @@ without_feed (b ∷ bs) all = byte_kept b bs (free_not_feed bs all.1) ∙ ap (λ
 pub lines-cut : (text prefix line rest : List ℕ) → IsCut 10 text prefix rest → DropsReturn prefix line → lines_of text ≡ line ∷ lines_of rest
 lines-cut text prefix line rest c drops = elim drops [
   | inl e ↦
-      let all = All-front (λ b. b ≢ 10) line (13 ∷ []) (subst_all prefix (line ++ 13 ∷ []) e c.first) in
+      let all = All-prefix (λ b. b ≢ 10) line (13 ∷ []) (subst_all prefix (line ++ 13 ∷ []) e c.first) in
       ap (pieces (λ b. eqb b 10)) (ap without_returns (c.whole ∙ ap (λ (xs : List ℕ). xs ++ 10 ∷ rest) e) ∙ with_return line rest all)
       ∙ pieces_of_cut 10 (line ++ 10 ∷ without_returns rest) line (without_returns rest) (record { whole = refl; first = all })
   | inr e ↦

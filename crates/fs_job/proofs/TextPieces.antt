@@ -3,7 +3,9 @@ use Rattle.std.proofs.Common.{◌≡◌, ◌≢◌, ℕ, Bool, true, false, cond
 use Rattle.std.specs.List.{AllByRecursion}
 use Rattle.fs_job.specs.Pieces.{onto_first, pieces}
 use Rattle.fs_job.specs.Cuts.{IsCut}
-use Rattle.fs_job.proofs.Lists.{heads_equal, tails_equal, All-weaker, eqb-false, eqb-same}
+use Rattle.fs_job.proofs.ByteTests.{eqb-false, eqb-same}
+use Rattle.fs_lists.proofs.Equal.{heads_equal, tails_equal}
+use Rattle.fs_lists.proofs.All.{All-weaker}
 
 -- a prefix in which no byte passes, and a byte that does
 pub pieces-cut : (at : ℕ → Bool) (prefix : List ℕ) (b : ℕ) (rest : List ℕ) → AllByRecursion (λ c. at c ≡ false) prefix → at b ≡ true → pieces at (prefix ++ b ∷ rest) ≡ prefix ∷ pieces at rest

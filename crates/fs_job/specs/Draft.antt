@@ -1,6 +1,7 @@
 -- What the lines of a job say together, where a statement is allowed, and what it leads to: a draft with the statement added, or a fault.
 use Rattle.std.specs.Prelude.{◌≡◌, ◌≢◌, ℕ, ◌+◌, ◌<◌, ◌≤◌, List, [], ◌∷◌, ◌++◌, Ok, Err, length, sum_by}
 use Rattle.std.specs.List.{AllByRecursion}
+use Rattle.fs_lists.specs.First.{IsFirstWithout}
 use Rattle.fs_quadratic.specs.Radicand.{IsRadicand}
 use Rattle.fs_fraction.specs.Fraction.{Fraction}
 use Rattle.fs_fraction.specs.Number.{Reads}
@@ -64,13 +65,8 @@ abbrev pub IsNumber : List ℕ → Type 0
 IsNumber text = (x : Fraction) × Reads text (Ok x)
 
 -- the first of the texts that is no number has this fault
-pub record HasBadNumber (texts : List (List ℕ)) (fault : NumberFault) : Type 0 where
-  pub before : List (List ℕ)
-  pub text : List ℕ
-  pub after : List (List ℕ)
-  pub whole : texts ≡ before ++ text ∷ after
-  pub passed : AllByRecursion IsNumber before
-  pub fails : Reads text (Err fault)
+abbrev pub HasBadNumber : List (List ℕ) → NumberFault → Type 0
+HasBadNumber texts fault = (text : List ℕ) × IsFirstWithout IsNumber texts text × Reads text (Err fault)
 
 -- the fault of a line with a text that is no number
 abbrev pub number_fault : ℕ → NumberFault → Fault

@@ -1,6 +1,7 @@
 -- A command has one answer about a surface, and no other.
 use Rattle.std.proofs.Common.{◌≡◌, ℕ, ◌-◌, Bool, Result, Ok, Err, List, length, map, refl, sym, ap, ◌∙◌, subst}
 use Rattle.std.specs.Prelude.{codes}
+use Rattle.fs_lists.proofs.Results.{ok_equal, err_equal, ok_not_err}
 use Rattle.fs_fraction.specs.Fraction.{Fraction}
 use Rattle.fs_plane.specs.declared.sites.Site.{Site}
 use Rattle.fs_gluing.specs.Surface.{GluedPolygons, IsSurface}
@@ -19,15 +20,6 @@ use Rattle.fs_report.proofs.Descending.{descending_unique, descending_exists}
 
 -- ---- the stratum
 
-ok_not_err : (x : Fraction) (site : Site) → ◌≡◌ {A = Result Fraction Site} (Ok x) (Err site) → ⊥
-ok_not_err x site e = cc
-
-same_ok : (x y : Fraction) → ◌≡◌ {A = Result Fraction Site} (Ok x) (Ok y) → x ≡ y
-same_ok x y e = cc
-
-same_site : (x y : Site) → ◌≡◌ {A = Result Fraction Site} (Err x) (Err y) → x ≡ y
-same_site x y e = cc
-
 -- the text of equal parts
 same_text : (cones cones' : List Cone) (orders orders' : List ℕ) (g g' : ℕ) (area area' : Fraction) → cones ≡ cones' → orders ≡ orders' → g ≡ g' → area ≡ area'
     → stratum_text orders g cones area ≡ stratum_text orders' g' cones' area'
@@ -40,14 +32,14 @@ stratum_unique s m n p q surface (whole cones orders g area are all genus is tex
     let same_orders = descending_unique (map (λ cone. cone.k - 1) cones) orders orders' all.descending all'.descending all.all
     (subst (λ (cs : List Cone). AreOrders cs orders') (sym same) all').all in
     let same_genus = one_genus s (length cones) g g' genus (subst (λ (v : ℕ). IsGenus s v g') (sym as_many) genus') in
-    let same_area = same_ok area area' (area_unique s (Ok area) (Ok area') is is') in
+    let same_area = ok_equal area area' (area_unique s (Ok area) (Ok area') is is') in
     (text ∙ (same_text cones cones' orders orders' g g' area area' same same_orders same_genus same_area ∙ sym text'), kind ∙ sym kind')
 stratum_unique s m n p q surface (whole cones orders g area are all genus is text kind) (overflowed site is' text' kind') =
     absurd (ok_not_err area site (area_unique s (Ok area) (Err site) is is'))
 stratum_unique s m n p q surface (overflowed site is text kind) (whole cones orders g area are all genus is' text' kind') =
     absurd (ok_not_err area site (area_unique s (Ok area) (Err site) is' is))
 stratum_unique s m n p q surface (overflowed site is text kind) (overflowed site' is' text' kind') =
-    (text ∙ (ap (λ (x : Site). overflow_line (codes "stratum") x) (same_site site site' (area_unique s (Err site) (Err site') is is')) ∙ sym text'), kind ∙ sym kind')
+    (text ∙ (ap (λ (x : Site). overflow_line (codes "stratum") x) (err_equal site site' (area_unique s (Err site) (Err site') is is')) ∙ sym text'), kind ∙ sym kind')
 
 stratum_exists : (s : GluedPolygons) → IsSurface s → ((text : List ℕ) (partial : Bool) → ¬ AnswersStratum s text partial) → ⊥
 stratum_exists s surface none = area_exists s by_area

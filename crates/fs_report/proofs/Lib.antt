@@ -1,4 +1,3 @@
-pub mod SideCounts
 pub mod Descending
 pub mod SortedOrders
 pub mod ListTexts

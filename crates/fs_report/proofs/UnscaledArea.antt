@@ -5,6 +5,7 @@ use Rattle.std.specs.Int.{◌∣◌, w128}
 use Rattle.std.proofs.Math.Nat.{eq-one_of_dvd-one}
 use Rattle.std.specs.Int.Signed.{mag}
 use Rattle.std.proofs.lemmas.Int.{ints, to_z-of_z, fits_signed_from_abs}
+use Rattle.fs_lists.proofs.Results.{err_equal}
 use Rattle.fs_ring.proofs.Integers.{integer_ring, integer_order}
 use Rattle.fs_ring.proofs.Signs.{mul_left_cancel}
 use Rattle.fs_ring.proofs.Solver.{identity, ◌⊗◌, ◌≐◌}
@@ -147,9 +148,6 @@ ok_or_err : {A E : Type 0} (r : Result A E) (e : E) → r ≡ Err e → IsOk r �
 ok_or_err (Ok x) e f h = cc
 ok_or_err (Err x) e f h = cc
 
-same_err : {A E : Type 0} (x y : E) → ◌≡◌ {A = Result A E} (Err x) (Err y) → x ≡ y
-same_err x y e = cc
-
 unscaled_unique : (d : ℕ) (twice : Quadratic) (den : ℕ) (a b : Result Fraction Site) → IsUnscaled d twice den a → IsUnscaled d twice den b → a ≡ b
 unscaled_unique d twice den a b (over_once not is) (over_once not' is') = is ∙ sym is'
 unscaled_unique d twice den a b (over_once not is) (over_twice first not' is') = absurd (not first)
@@ -163,7 +161,7 @@ unscaled_unique d twice den a b (exact first second is) (exact first' second' is
 
 -- a surface has one area, or one site where it overflows
 pub area_unique : (s : GluedPolygons) (a b : Result Fraction Site) → GivesArea s a → GivesArea s b → a ≡ b
-area_unique s a b (at_triangle site e is) (at_triangle site' e' is') = is ∙ (ap Err (same_err site site' (sym e ∙ e')) ∙ sym is')
+area_unique s a b (at_triangle site e is) (at_triangle site' e' is') = is ∙ (ap Err (err_equal site site' (sym e ∙ e')) ∙ sym is')
 area_unique s a b (at_triangle site e is) (summed ok size) = absurd (ok_or_err _ site e ok)
 area_unique s a b (summed ok size) (at_triangle site e is) = absurd (ok_or_err _ site e ok)
 area_unique s a b (summed ok size) (summed ok' size') = unscaled_unique s.d (twice_area s) (unsigned_abs s.den) a b size size'

@@ -1,6 +1,6 @@
 use Rattle.std.proofs.Common.{sym, ◌∙◌, arith}
 use Rattle.fs_job.specs.Stage.{kept_draft}
-use Rattle.fs_job.proofs.Lists.{not_nil_by_length}
+use Rattle.fs_lists.proofs.Equal.{not_nil_by_length}
 use Rattle.fs_job.proofs.Additions.{adds_command}
 use Rattle.fs_job.proofs.drafts.add_command.Goals as goal
 

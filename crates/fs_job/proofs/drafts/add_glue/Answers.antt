@@ -1,6 +1,6 @@
 use Rattle.std.proofs.Common.{sym, ◌∙◌}
 use Rattle.fs_job.specs.Stage.{kept_draft}
-use Rattle.fs_job.proofs.Lists.{nil_by_length}
+use Rattle.fs_lists.proofs.Equal.{nil_by_length}
 use Rattle.fs_job.proofs.Additions.{adds_glue}
 use Rattle.fs_job.proofs.drafts.add_glue.Goals as goal
 

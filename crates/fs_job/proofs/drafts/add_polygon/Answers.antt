@@ -4,7 +4,7 @@ use Rattle.fs_job.specs.Pieces.{words_of}
 use Rattle.fs_job.specs.Statement.{polygon_line}
 use Rattle.fs_job.specs.Line.{pairs_of}
 use Rattle.fs_job.specs.Stage.{kept_draft}
-use Rattle.fs_job.proofs.Lists.{nil_by_length}
+use Rattle.fs_lists.proofs.Equal.{nil_by_length}
 use Rattle.fs_job.proofs.Additions.{has_room, adds_polygon, leads_to_bad_number, sides_counted}
 use Rattle.fs_job.proofs.drafts.add_polygon.Goals as goal
 

@@ -1,6 +1,6 @@
 use Rattle.std.proofs.Common.{sym, ◌∙◌}
 use Rattle.fs_job.specs.Stage.{kept_draft}
-use Rattle.fs_job.proofs.Lists.{not_nil_by_length}
+use Rattle.fs_lists.proofs.Equal.{not_nil_by_length}
 use Rattle.fs_job.proofs.Additions.{adds_end}
 use Rattle.fs_job.proofs.drafts.end.Goals as goal
 

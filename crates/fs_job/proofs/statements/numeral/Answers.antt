@@ -1,23 +1,23 @@
 use Rattle.std.proofs.Common.{get_or, arith}
 use Rattle.std.proofs.lemmas.Int.Digits.{digits_more, digits_value_more}
-use Rattle.fs_job.proofs.Digits.{digit_at, digit_contradicts, digit_value_is, value_below_1000}
+use Rattle.fs_lists.proofs.Digits.{digit_at, no_digit, digit_value_is, prefix_value_below}
 use Rattle.fs_job.proofs.statements.numeral.Goals as goal
 
 pub returns-then-not-is_ascii_digit : goal.returns-then-not-is_ascii_digit
 returns-then-not-is_ascii_digit c = λ n spelled.
     let text = c.args.text.now in
     let i = c.loop-byte.byte-index in
-    digit_contradicts (get_or text i 0) (rw c.if-not-is_ascii_digit.true at c.is_ascii_digit.ensures.cases) (digit_at text i spelled.digits.1 (omega arith))
+    no_digit (get_or text i 0) (rw c.if-not-is_ascii_digit.true at c.is_ascii_digit.ensures.cases) (digit_at text i spelled.digits.1 (omega arith))
 
 pub overflow_mul-value : goal.overflow_mul-value
 overflow_mul-value c =
-    let small = value_below_1000 c.args.text.now c.loop-byte.byte-index c.loop-byte.invariant.digits (omega arith) (omega arith) in
+    let small = prefix_value_below c.args.text.now c.loop-byte.byte-index 3 c.loop-byte.invariant.digits (omega arith) (omega arith) in
     let number = c.loop-byte.invariant.number in
     omega arith
 
 pub overflow_add-value : goal.overflow_add-value
 overflow_add-value c =
-    let small = value_below_1000 c.args.text.now c.loop-byte.byte-index c.loop-byte.invariant.digits (omega arith) (omega arith) in
+    let small = prefix_value_below c.args.text.now c.loop-byte.byte-index 3 c.loop-byte.invariant.digits (omega arith) (omega arith) in
     let number = c.loop-byte.invariant.number in
     let digit = rw c.if-not-is_ascii_digit.false at c.is_ascii_digit.ensures.cases in
     let from = c.from.ensures in

@@ -1,5 +1,5 @@
 use Rattle.std.proofs.Common.{sym, ◌∙◌, arith}
-use Rattle.fs_job.proofs.Lists.{not_nil_by_length}
+use Rattle.fs_lists.proofs.Equal.{not_nil_by_length}
 use Rattle.fs_job.proofs.TextWords.{first_word}
 use Rattle.fs_job.proofs.words.next_word.Goals as goal
 
