@@ -7,7 +7,7 @@ use Rattle.fs_job.specs.declared.job.JobStop.{JobStop}
 use Rattle.fs_job.specs.declared.job.JobStop.TheVariants as stops
 use Rattle.fs_job.specs.Pieces.{words_of, IsText}
 use Rattle.fs_job.specs.Statement.{Statement, SpellsStatement}
-use Rattle.fs_job.specs.Draft.{Draft, Progress, nothing, ended, Outcome, to_progress, to_fault, StatementLeads}
+use Rattle.fs_job.specs.Draft.{Draft, Progress, nothing, ended, Outcome, to_progress, to_fault, IsAllowed, StatementLeads}
 use Rattle.fs_job.specs.Grammar.{Leads, statement, IsFirstFault}
 use Rattle.fs_job.specs.Stage.{progress_of, ReturnsOutcome}
 use Rattle.fs_job.proofs.JobLines.{LedTo, first_fault_at_line}
@@ -24,6 +24,13 @@ pub returns_after_header : (n : ℕ) (before stated : Progress) (line : List ℕ
 returns_after_header n before stated line s r e text some spells came =
     returns_weaker (StatementLeads n before s) (Leads n before line) (λ o leads. statement s text some spells leads) r
     (subst (λ (b : Progress). ReturnsOutcome (StatementLeads n b s) r) (sym e) came)
+
+-- after the end no statement is allowed
+pub not_allowed : (stage : Stage) → stage ≢ stages.Headed → ((draft : DraftJob) → stage ≢ stages.Drafted draft) → (s : Statement) → ¬ IsAllowed (progress_of stage) s
+not_allowed stages.Start h d s may = may
+not_allowed stages.Headed h d s may = h refl
+not_allowed (stages.Drafted draft) h d s may = d draft refl
+not_allowed (stages.Ended draft) h d s may = may
 
 -- a stage that isn't the last is no end, and one that isn't the first has the header
 pub not_ended : (stage : Stage) → ((draft : DraftJob) → stage ≢ stages.Ended draft) → (draft : Draft) → progress_of stage ≢ ended draft

@@ -52,7 +52,7 @@ pub fn read_points(alloc: Global, number: u32, pairs: Pairs<'_>) -> Result<Seque
     ensures points { IfOk result (ArePoints (pairs_of (words_of pairs.entry.words.now))) }
     ensures fault { IfErr result (λ e. (e ≡ JobStop.NoMemory)
         ⊎ ((fault : NumberFault) × (e ≡ JobStop.Fault (number_fault number fault))
-        × HasBadNumber (numbers (polygon_line (pairs_of (words_of pairs.entry.words.now)))) fault)) }
+        × HasBadNumber (number_texts (polygon_line (pairs_of (words_of pairs.entry.words.now)))) fault)) }
 {
     let mut points = Sequence::new(alloc);
     let mut rest = pairs.words;
