@@ -1,3 +1,5 @@
+// Answers written into a sink.
+
 ghost use Rattle.std.specs.Prelude.{◌∷◌, []};
 ghost use Rattle.fs_gluing.specs.Surface.{IsSurface};
 ghost use Rattle.fs_report.specs.Text.{fault_line, build_line, Answers};

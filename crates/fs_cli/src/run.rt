@@ -1,3 +1,5 @@
+// `flat`: a job read from a source and answered into a sink.
+
 ghost use Rattle.std.specs.Prelude.{◌≡◌, ◌↔◌, ◌<◌, ◌≤◌, ℕ, List, length, IfSome};
 ghost use Rattle.std.specs.Io.KnownBytes.{Appends, IsAtEnd, Keeps};
 ghost use Rattle.fs_io.specs.Faults.{Rose};

@@ -1,3 +1,5 @@
+// Jobs and their faults, limits, failing streams, and words of the command line.
+
 use crate::running::{expect_change, square_with};
 use fs_cli::{Status, flat};
 use fs_io::{MemSink, MemSource};

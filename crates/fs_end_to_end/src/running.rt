@@ -1,3 +1,5 @@
+// How a table of jobs is run.
+
 use fs_cli::{Status, flat};
 use fs_io::{MemSink, MemSource};
 use std::alloc::{AllocError, Global};

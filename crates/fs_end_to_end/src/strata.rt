@@ -1,3 +1,5 @@
+// Surfaces with their strata, genera, areas and cone angles.
+
 use crate::running::{run, status_of};
 use std::alloc::Global;
 use std::process::Abort;

@@ -1,3 +1,5 @@
+// The streams over the standard library's readers and writers.
+
 use fs_io::{Failed, Sink, Source, StdSink, StdSource};
 use std::io::{self, Read, Write};
 use std::test::Fail;

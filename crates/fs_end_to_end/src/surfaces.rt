@@ -1,3 +1,5 @@
+// Polygons and gluings with their first faults and overflows.
+
 use crate::running::{expect, expect_change};
 use std::alloc::{AllocError, Global};
 use std::test::Fail;

@@ -1,3 +1,5 @@
+// The job that is made line by line.
+
 ghost use Rattle.std.specs.Prelude.{◌≡◌, ◌≤◌, length, sum_by};
 
 use crate::job::{Command, Form, Job};

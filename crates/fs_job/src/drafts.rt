@@ -1,3 +1,5 @@
+// What each line adds to the job, or its fault.
+
 ghost use Rattle.std.specs.Prelude.{◌≡◌, length};
 ghost use Rattle.fs_job.specs.Pieces.{words_of};
 ghost use Rattle.fs_job.specs.Statement.{ArePairs, field_line, polygon_line, glue_line, command_line, end_line};

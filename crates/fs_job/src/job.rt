@@ -1,3 +1,5 @@
+// Jobs, their commands, and why bytes are none.
+
 ghost use Rattle.std.specs.Prelude.{◌≡◌};
 ghost use Rattle.fs_job.specs.declared.job.JobStop.TheVariants.{NoMemory};
 

@@ -1,3 +1,5 @@
+// The law of the grammar of jobs.
+
 ghost use Rattle.std.specs.Prelude.{◌≡◌, ℕ, List};
 ghost use Rattle.fs_gluing.specs.declared.faults.Fault.{Fault};
 ghost use Rattle.fs_job.specs.Draft.{Draft};

@@ -1,3 +1,5 @@
+// Texts cut at a byte.
+
 ghost use Rattle.std.specs.Prelude.{◌≡◌, ◌≢◌, ℕ, List, [], ◌∷◌, ◌==◌, MatchOption};
 ghost use Rattle.std.specs.List.{AllByRecursion};
 ghost use Rattle.fs_job.specs.Pieces.{pieces};

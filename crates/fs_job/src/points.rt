@@ -1,3 +1,5 @@
+// The numbers of a polygon line.
+
 ghost use Rattle.std.specs.Prelude.{◌≡◌, ◌⊎◌, List, Ok, [], ◌∷◌, IfOk, IfErr};
 ghost use Rattle.fs_fraction.specs.Number.{Reads};
 ghost use Rattle.fs_fraction.specs.declared.number.NumberFault.{NumberFault};

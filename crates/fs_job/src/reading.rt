@@ -1,3 +1,5 @@
+// `read_job`: the job that bytes are, or their first fault.
+
 ghost use Rattle.std.specs.Prelude.{◌≡◌, ◌≢◌, ◌⊎◌, ◌≤◌, [], length, IfOk, IfErr};
 ghost use Rattle.fs_gluing.specs.declared.faults.Fault.{Fault};
 ghost use Rattle.fs_gluing.specs.Shape.{IsWithinLimits};

@@ -1,3 +1,5 @@
+// The texts of sites.
+
 ghost use Rattle.std.specs.Prelude.{◌≡◌, IfOk, string_bytes};
 ghost use Rattle.fs_job.specs.SiteText.{site_text};
 

@@ -1,3 +1,5 @@
+// What a line states.
+
 ghost use Rattle.std.specs.Prelude.{◌≡◌, ◌≤◌, ◌↔◌, ℕ, List, [], ◌∷◌, codes, Contains, IsTrue, MatchOption, length};
 ghost use Rattle.fs_job.specs.declared.job.Command.{Command};
 ghost use Rattle.fs_job.specs.Pieces.{words_of};

@@ -1,3 +1,5 @@
+// Answers to commands.
+
 ghost use Rattle.std.specs.Prelude.{◌≡◌, ◌≤◌, length, sum_by, IfOk, string_bytes};
 ghost use Rattle.fs_report.specs.Text.{check_line, Answers};
 

@@ -1,3 +1,5 @@
+// The unscaled area of a surface.
+
 ghost use Rattle.std.specs.Prelude.{◌≡◌, ◌<ℤ◌, pos, IfOk, IfErr, unsigned_abs};
 ghost use Rattle.fs_fraction.specs.Arithmetic.{product, ProductFits};
 ghost use Rattle.fs_plane.specs.declared.sites.Site.TheVariants.{AreaScale};

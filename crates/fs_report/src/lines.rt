@@ -1,3 +1,5 @@
+// The lines of faults and of overflows.
+
 ghost use Rattle.std.specs.Prelude.{◌≡◌, IfOk, string_bytes};
 ghost use Rattle.fs_report.specs.Text.{fault_words, fault_line, build_line, overflow_line};
 

@@ -1,3 +1,5 @@
+// Jobs read from texts, and the texts of sites.
+
 use fs_fraction::{Frac, read_number};
 use fs_gluing::{Fault, Glue};
 use fs_job::{Command, Form, Job, JobStop, print_site, read_job};

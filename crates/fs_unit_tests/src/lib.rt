@@ -1,4 +1,4 @@
-// Tests of the public calls of each crate, over memory: a module for each crate.
+// Tests of the public calls of each crate: tables of arguments and results.
 #![tactic(auto)]
 
 #[cfg(test)]
