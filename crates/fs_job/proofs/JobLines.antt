@@ -21,7 +21,7 @@ lines_lead_append n a b c [] line p q = (c, leads_at (n + 0) n a line (to_progre
 lines_lead_append n a b c (x ∷ xs) line p q = (p.0, p.1, lines_lead_append (n + 1) p.0 b c xs line p.2 (leads_at (n + length (x ∷ xs)) ((n + 1) + length xs) b line (to_progress c) (omega arith) q))
 
 -- lines lead to one progress at most
-pub lines_lead_unique : (n : ℕ) (a b c : Progress) (lines : List (List ℕ)) → LinesLead n a lines b → LinesLead n a lines c → b ≡ c
+lines_lead_unique : (n : ℕ) (a b c : Progress) (lines : List (List ℕ)) → LinesLead n a lines b → LinesLead n a lines c → b ≡ c
 lines_lead_unique n a b c [] p q = sym p ∙ q
 lines_lead_unique n a b c (x ∷ xs) p q =
     let same = to_progress_injective p.0 q.0 (leads_unique n a x (to_progress p.0) (to_progress q.0) p.1 q.1) in

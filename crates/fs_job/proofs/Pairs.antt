@@ -22,7 +22,7 @@ pub record PairsBefore (words rest : List (List ℕ)) (count : ℕ) : Type 0 whe
   pub counted : count ≡ length before
 
 -- a pair more
-pub are_pairs_append : (before : List (List ℕ)) (word : List ℕ) → ArePairs before (pairs_of before) → IsPair word (pair_of word) → ArePairs (before ++ word ∷ []) (pairs_of (before ++ word ∷ []))
+are_pairs_append : (before : List (List ℕ)) (word : List ℕ) → ArePairs before (pairs_of before) → IsPair word (pair_of word) → ArePairs (before ++ word ∷ []) (pairs_of (before ++ word ∷ []))
 are_pairs_append [] word all pair = (pair, tt)
 are_pairs_append (w ∷ ws) word all pair = (all.0, are_pairs_append ws word all.1 pair)
 

@@ -35,7 +35,7 @@ pair_texts word none (Some parts) cut pair =
 -- ---- the first text that is no number
 
 -- a text that is read with a fault is no number
-pub number_not_bad : (text : List ℕ) (fault : NumberFault) → IsNumber text → Reads text (Err fault) → ⊥
+number_not_bad : (text : List ℕ) (fault : NumberFault) → IsNumber text → Reads text (Err fault) → ⊥
 number_not_bad text fault a b = ok_not_err a.0 fault (same_read text (Err fault) (Ok a.0) b a.1)
 
 -- the first of two texts is no number

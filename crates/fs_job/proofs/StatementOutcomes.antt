@@ -41,7 +41,7 @@ bad_number_unique texts f g u v =
 -- ---- points
 
 -- pairs spell one list of points at most
-pub points_unique : (pairs : List Pair) (ps qs : List Point) → ArePoints pairs ps → ArePoints pairs qs → ps ≡ qs
+points_unique : (pairs : List Pair) (ps qs : List Point) → ArePoints pairs ps → ArePoints pairs qs → ps ≡ qs
 points_unique [] [] [] a b = refl
 points_unique [] [] (q ∷ qs) a b = absurd b
 points_unique [] (p ∷ ps) qs a b = absurd a
@@ -53,7 +53,7 @@ points_unique (r ∷ rs) (p ∷ ps) (q ∷ qs) a b =
     ap (λ (u : Fraction). (record { x = u; y = p.y }) ∷ ps) x ∙ (ap (λ (u : Fraction). (record { x = q.x; y = u }) ∷ ps) y ∙ ap (λ (us : List Point). q ∷ us) (points_unique rs ps qs a.2 b.2))
 
 -- what a statement adds is one at most
-pub adds_unique : (n : ℕ) (draft : Draft) (s : Statement) (b c : Progress) → Adds n draft s b → Adds n draft s c → b ≡ c
+adds_unique : (n : ℕ) (draft : Draft) (s : Statement) (b c : Progress) → Adds n draft s b → Adds n draft s c → b ≡ c
 adds_unique n draft (field_line d) b c p q = p ∙ sym q
 adds_unique n draft (polygon_line pairs) b c p q =
     p.2 ∙ (ap (λ (points : List Point). drafted (record draft { polygons = draft.polygons ++ points ∷ [] })) (points_unique pairs p.0 q.0 p.1 q.1) ∙ sym q.2)

@@ -13,15 +13,15 @@ use Rattle.fs_job.proofs.Pairs.{pairs_unique}
 -- ---- numerals and corners
 
 -- a text spells one number at most
-pub numeral_unique : (most : ℕ) (text : List ℕ) (m n : ℕ) → SpellsNumeral most text m → SpellsNumeral most text n → m ≡ n
+numeral_unique : (most : ℕ) (text : List ℕ) (m n : ℕ) → SpellsNumeral most text m → SpellsNumeral most text n → m ≡ n
 numeral_unique most text m n s t = s.value ∙ sym t.value
 
 -- two equal texts spell one number
-pub numeral_unique_along : (most : ℕ) (text text' : List ℕ) (m n : ℕ) → text ≡ text' → SpellsNumeral most text m → SpellsNumeral most text' n → m ≡ n
+numeral_unique_along : (most : ℕ) (text text' : List ℕ) (m n : ℕ) → text ≡ text' → SpellsNumeral most text m → SpellsNumeral most text' n → m ≡ n
 numeral_unique_along most text text' m n e s t = numeral_unique most text m n s (subst (λ u. SpellsNumeral most u n) (sym e) t)
 
 -- a text spells one corner at most
-pub corner_unique : (text : List ℕ) (c e : Corner) → SpellsCorner text c → SpellsCorner text e → c ≡ e
+corner_unique : (text : List ℕ) (c e : Corner) → SpellsCorner text c → SpellsCorner text e → c ≡ e
 corner_unique text c e s t =
     let whole = sym s.whole ∙ t.whole in
     let one = heads_equal s.polygon_text t.polygon_text (s.side_text ∷ []) (t.side_text ∷ []) whole in
@@ -50,12 +50,12 @@ second_not_corner words rest word last e f none one two s =
 -- ---- the first word tells which statement it is
 
 -- the word of a command
-abbrev pub command_word : Command → List ℕ
+abbrev command_word : Command → List ℕ
 command_word Check = codes "check"
 command_word Stratum = codes "stratum"
 
 -- the first word of a statement
-abbrev pub statement_word : Statement → List ℕ
+abbrev statement_word : Statement → List ℕ
 statement_word (field_line d) = codes "field"
 statement_word (polygon_line pairs) = codes "polygon"
 statement_word (glue_line one two) = codes "glue"
@@ -63,7 +63,7 @@ statement_word (command_line command) = command_word command
 statement_word end_line = codes "end"
 
 -- the words after it spell the rest
-abbrev pub SpellsRest : List (List ℕ) → Statement → Type 0
+abbrev SpellsRest : List (List ℕ) → Statement → Type 0
 SpellsRest rest (field_line d) = SpellsField rest d
 SpellsRest rest (polygon_line pairs) = ArePairs rest pairs
 SpellsRest rest (glue_line one two) = SpellsGlue rest one two
@@ -71,7 +71,7 @@ SpellsRest rest (command_line command) = rest ≡ []
 SpellsRest rest end_line = rest ≡ []
 
 -- the first word of a statement, and what the others spell
-pub spelled_parts : (words : List (List ℕ)) (s : Statement) → SpellsStatement words s → (rest : List (List ℕ)) × (words ≡ statement_word s ∷ rest) × SpellsRest rest s
+spelled_parts : (words : List (List ℕ)) (s : Statement) → SpellsStatement words s → (rest : List (List ℕ)) × (words ≡ statement_word s ∷ rest) × SpellsRest rest s
 spelled_parts words (field_line d) s = (s.0 ∷ [], s.1, (s.0, refl, s.2))
 spelled_parts words (polygon_line pairs) s = (s.0, s.1, s.2)
 spelled_parts words (glue_line one two) s = (s.0 ∷ s.1 ∷ [], s.2, (s.0, s.1, refl, s.3, s.4))
@@ -80,7 +80,7 @@ spelled_parts words (command_line Stratum) s = ([], s.4, refl)
 spelled_parts words end_line s = ([], s, refl)
 
 -- the words after a first word that is known
-pub spelled_rest : (words rest : List (List ℕ)) (word : List ℕ) → words ≡ word ∷ rest → (s : Statement) → SpellsStatement words s → (statement_word s ≡ word) × SpellsRest rest s
+spelled_rest : (words rest : List (List ℕ)) (word : List ℕ) → words ≡ word ∷ rest → (s : Statement) → SpellsStatement words s → (statement_word s ≡ word) × SpellsRest rest s
 spelled_rest words rest word e s shows =
     let p = spelled_parts words s shows in
     let same = sym p.1 ∙ e in
@@ -96,7 +96,7 @@ nil_spells_none words e s shows = some (statement_word s) (spelled_parts words s
 -- ---- the first word tells the kind of the statement
 
 -- a number for each kind of statement, and for each command
-abbrev pub kind : Statement → ℕ
+abbrev kind : Statement → ℕ
 kind (field_line d) = 0
 kind (polygon_line pairs) = 1
 kind (glue_line one two) = 2

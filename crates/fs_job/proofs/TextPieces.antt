@@ -32,7 +32,7 @@ cond-not_nil true ps qs a b = a
 cond-not_nil false ps qs a b = b
 
 -- there is a piece
-pub pieces-not_nil : (at : ℕ → Bool) (text : List ℕ) → pieces at text ≢ []
+pieces-not_nil : (at : ℕ → Bool) (text : List ℕ) → pieces at text ≢ []
 pieces-not_nil at [] = empty_first-not_nil []
 pieces-not_nil at (c ∷ cs) = cond-not_nil (at c) ([] ∷ pieces at cs) (onto_first c (pieces at cs)) (empty_first-not_nil (pieces at cs)) (onto_first-not_nil c (pieces at cs))
 

@@ -10,7 +10,7 @@ words-blank : (b : ℕ) (bytes : List ℕ) → is_blank b ≡ true → words_of 
 words-blank b bytes e = ap (λ (t : Bool). filter is_not_empty (cond t ([] ∷ pieces is_blank bytes) (onto_first b (pieces is_blank bytes)))) e
 
 -- blanks before the first word
-pub words-blanks : (prefix rest : List ℕ) → AllByRecursion (λ b. is_blank b ≡ true) prefix → words_of (prefix ++ rest) ≡ words_of rest
+words-blanks : (prefix rest : List ℕ) → AllByRecursion (λ b. is_blank b ≡ true) prefix → words_of (prefix ++ rest) ≡ words_of rest
 words-blanks [] rest all = refl
 words-blanks (b ∷ bs) rest all = words-blank b (bs ++ rest) all.0 ∙ words-blanks bs rest all.1
 

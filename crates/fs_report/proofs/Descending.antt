@@ -16,7 +16,7 @@ use Rattle.std.proofs.lemmas.List.Sums.{sum_by-cons}
 use Rattle.std.proofs.lemmas.List.Sorted.{IsNonDecreasingBy-from_sort, sum_by-IsPermutation, All-permutation, IsPermutation-refl, IsPermutation-sym, IsPermutation-trans, IsPermutation-cons, IsPermutation-middle}
 
 -- no number is below a later one
-abbrev pub IsFalling : List ℕ → Type 0
+abbrev IsFalling : List ℕ → Type 0
 IsFalling [] = Unit {0}
 IsFalling (x ∷ xs) = AllByRecursion (λ y. y ≤ x) xs × IsFalling xs
 
@@ -42,7 +42,7 @@ below_head x (y ∷ ys) s =
     (first, at_most x y ys first (below_head y ys (descending_tail x (y ∷ ys) s)))
 
 -- a list in which each number is at most the one before it
-pub falling_of_descending : (xs : List ℕ) → IsDescending xs → IsFalling xs
+falling_of_descending : (xs : List ℕ) → IsDescending xs → IsFalling xs
 falling_of_descending [] s = tt
 falling_of_descending (x ∷ xs) s = (below_head x xs s, falling_of_descending xs (descending_tail x xs s))
 
@@ -53,7 +53,7 @@ not_below x y h = elim (eq-or-lt_of_le h) [
 ]
 
 -- a list in which no number is below a later one
-pub descending_of_falling : (xs : List ℕ) → IsFalling xs → IsDescending xs
+descending_of_falling : (xs : List ℕ) → IsFalling xs → IsDescending xs
 descending_of_falling [] f = λ k d low high. absurd (omega arith)
 descending_of_falling (x ∷ []) f = λ k d low high. absurd (omega arith)
 descending_of_falling (x ∷ (y ∷ ys)) f = at (descending_of_falling (y ∷ ys) f.1)

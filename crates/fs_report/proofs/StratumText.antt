@@ -11,7 +11,7 @@ use Rattle.fs_report.specs.Orders.{AreOrders}
 use Rattle.fs_report.specs.Text.{AnswersStratum, whole, overflowed, stratum_line, stratum_text, vertex_lines, overflow_line}
 
 -- vertices, orders and genus, and the text that names them
-abbrev pub AreSpelled : GluedPolygons → Fraction → List ℕ → Type 0
+abbrev AreSpelled : GluedPolygons → Fraction → List ℕ → Type 0
 AreSpelled s area text = (cones : List Cone) × (orders : List ℕ) × (g : ℕ) × AreCones s cones × AreOrders cones orders × IsGenus s (length cones) g × (text ≡ stratum_text orders g cones area)
 
 -- the line and the lines of vertices are the whole text

@@ -75,7 +75,7 @@ module _ (d : ℕ) (twice : Quadratic) (den : ℕ) (positive : 0 < den) where
   half_positive = reduced-positive twice 2 (omega arith)
 
   -- what is computed in two steps is the area
-  pub area_is : ProductFits d (half twice) (one_over den) → ProductFits d (half_over d twice den) (one_over den)
+  area_is : ProductFits d (half twice) (one_over den) → ProductFits d (half_over d twice den) (one_over den)
       → product d (half_over d twice den) (one_over den) ≡ unscaled_area twice den
   area_is first second =
       let lowest = product-lowest d (half twice) (one_over den) half_positive positive first in
