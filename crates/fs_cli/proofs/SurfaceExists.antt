@@ -1,7 +1,6 @@
 -- Each job whose shape passes all tests has a surface.
-use Rattle.std.proofs.Common.{◌≢◌, ℕ, ◌<◌, List, [], ◌∷◌, length, refl, arith}
+use Rattle.std.proofs.Common.{ℕ, List}
 use Rattle.std.specs.List.{AllByRecursion}
-use Rattle.fs_gluing.specs.declared.shapes.Point.{Point}
 use Rattle.fs_gluing.specs.FirstFault.{PassesOf, tests_of}
 use Rattle.fs_gluing.specs.Shape.{HasShape}
 use Rattle.fs_gluing.specs.Surface.{GluedPolygons, IsSurface}

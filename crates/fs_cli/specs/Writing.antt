@@ -1,5 +1,5 @@
 -- What a call wrote into the sink, whole or broken off. The contract of `flat` doesn't rest on this file.
-use Rattle.std.specs.Prelude.{◌≡◌, ℕ, ◌≤◌, ◌⊎◌, Bool, List, ◌++◌, Option}
+use Rattle.std.specs.Prelude.{◌≡◌, ℕ, ◌≤◌, ◌⊎◌, Bool, List, Option}
 use Rattle.std.specs.Io.KnownBytes.{Appends}
 use Rattle.fs_io.specs.Faults.{Rose}
 use Rattle.fs_cli.specs.declared.outcome.Status.{Status}
