@@ -23,7 +23,7 @@ fn main(rt: HostRuntime) -> ExitCode {
     ExitCode::from(status.code())
 }
 
-// The words behind the program's name. Where one isn't UTF-8 that is `Usage`.
+// The words after the program's name. Where one isn't UTF-8 that is `Usage`.
 fn words(rt: &HostRuntime) -> Result<Vec<String>, Status> {
     let words = match env::args(rt) {
         Ok(words) => words,

@@ -1,6 +1,5 @@
-pub mod Texts
-pub mod Answered
-pub mod Written
-pub mod Drafts
-pub mod Surfaces
-pub mod SomeAnswer
+pub mod CommandTexts
+pub mod AnsweredUnique
+pub mod CallWrites
+pub mod SurfaceExists
+pub mod AnsweredExists

@@ -11,42 +11,44 @@ use Rattle.fs_gluing.specs.Shape.{HasShape}
 use Rattle.fs_gluing.specs.Surface.{GluedPolygons, IsSurface}
 use Rattle.fs_gluing.specs.FirstFault.{Test, PassesOf, tests_of, IsFirstFailure, answer}
 use Rattle.fs_job.specs.declared.job.Command.{Command}
-use Rattle.fs_job.specs.Grammar.{Draft, ReadsJob, IsFirstFault}
-use Rattle.fs_report.specs.Text.{fault_text, build_text, Answers}
+use Rattle.fs_job.specs.Draft.{Draft}
+use Rattle.fs_job.specs.Grammar.{IsJob, IsFirstFault}
+use Rattle.fs_report.specs.Text.{fault_line, build_line, Answers}
 use Rattle.fs_cli.specs.declared.outcome.Status.{Status}
 use Rattle.fs_cli.specs.declared.outcome.Status.TheVariants as status
 
 -- what is written where a shape isn't built: its fault, or the site
-abbrev pub stop_text : BuildStop → List ℕ
-stop_text (stops.Fault fault) = fault_text fault
-stop_text (stops.Overflow site) = build_text site
-stop_text stops.NoMemory = []
+abbrev pub stop_line : BuildStop → List ℕ
+stop_line (stops.Fault fault) = fault_line fault
+stop_line (stops.Overflow site) = build_line site
+stop_line stops.NoMemory = []
 
+-- the status of such a text
 abbrev pub stop_status : BuildStop → Status
 stop_status (stops.Fault fault) = status.Refused
 stop_status (stops.Overflow site) = status.Partial
 stop_status stops.NoMemory = status.NoMemory
 
 -- the shape that a job describes
-abbrev pub shape_of : Draft → Shape
-shape_of draft = record { polygons = draft.polygons; glues = draft.glues }
+abbrev pub draft_shape : Draft → Shape
+draft_shape draft = record { polygons = draft.polygons; glues = draft.glues }
 
--- the status of a text, by whether it stands in the place of a whole answer
+-- the status of a text, by whether it is in place of a whole answer
 abbrev pub status_of : Bool → Status
 status_of partial = if partial then status.Partial else status.Done
 
--- the one answer and the other behind it, partial where one of them is
+-- the one answer and the other after it, partial where one of them is
 pub record AreJoined (One Other : List ℕ → Bool → Type 0) (output : List ℕ) (partial : Bool) : Type 0 where
-  pub front : List ℕ
-  pub back : List ℕ
-  pub front_partial : Bool
-  pub back_partial : Bool
-  pub one : One front front_partial
-  pub other : Other back back_partial
-  pub whole : output ≡ front ++ back
-  pub kind : partial ≡ front_partial || back_partial
+  pub prefix : List ℕ
+  pub rest : List ℕ
+  pub prefix_partial : Bool
+  pub rest_partial : Bool
+  pub one : One prefix prefix_partial
+  pub other : Other rest rest_partial
+  pub whole : output ≡ prefix ++ rest
+  pub kind : partial ≡ prefix_partial || rest_partial
 
--- the answers of commands in order, one behind the other
+-- the answers to commands in order, one after the other
 abbrev pub AnswersAll : GluedPolygons → List Command → List ℕ → Bool → Type 0
 AnswersAll s [] output partial = (output ≡ []) × (partial ≡ false)
 AnswersAll s (command ∷ commands) output partial = AreJoined (Answers s command) (AnswersAll s commands) output partial
@@ -54,15 +56,15 @@ AnswersAll s (command ∷ commands) output partial = AreJoined (Answers s comman
 -- the bytes are answered with this output and this status, for one of four reasons
 pub data IsAnswered (bytes output : List ℕ) (result : Status) : Type 0 where
   -- there are too many bytes
-  Too_long : most_bytes < length bytes → result ≡ status.Refused → output ≡ fault_text TooLong → IsAnswered bytes output result
+  too_long : most_bytes < length bytes → result ≡ status.Refused → output ≡ fault_line TooLong → IsAnswered bytes output result
   -- they are no job
-  At_fault : (fault : Fault) → length bytes ≤ most_bytes → IsFirstFault bytes fault → result ≡ status.Refused → output ≡ fault_text fault → IsAnswered bytes output result
+  no_job : (fault : Fault) → length bytes ≤ most_bytes → IsFirstFault bytes fault → result ≡ status.Refused → output ≡ fault_line fault → IsAnswered bytes output result
   -- the shape fails a test of building
-  Not_built : (draft : Draft) → (test : Test) → length bytes ≤ most_bytes → ReadsJob bytes draft → IsFirstFailure draft.d (shape_of draft) test
-      → result ≡ stop_status (answer test) → output ≡ stop_text (answer test) → IsAnswered bytes output result
+  not_built : (draft : Draft) → (test : Test) → length bytes ≤ most_bytes → IsJob bytes draft → IsFirstFailure draft.d (draft_shape draft) test
+      → result ≡ stop_status (answer test) → output ≡ stop_line (answer test) → IsAnswered bytes output result
   -- the surface of the shape is built, and the commands are answered in order
-  Answered : (draft : Draft) → (s : GluedPolygons) → (partial : Bool) → length bytes ≤ most_bytes → ReadsJob bytes draft
-      → IsSurface s → HasShape draft.d (shape_of draft) s → AllByRecursion (PassesOf draft.d (shape_of draft)) (tests_of (shape_of draft))
+  answered : (draft : Draft) → (s : GluedPolygons) → (partial : Bool) → length bytes ≤ most_bytes → IsJob bytes draft
+      → IsSurface s → HasShape draft.d (draft_shape draft) s → AllByRecursion (PassesOf draft.d (draft_shape draft)) (tests_of (draft_shape draft))
       → AnswersAll s draft.commands output partial → result ≡ status_of partial → IsAnswered bytes output result
 
 -- the number of a status
@@ -95,6 +97,6 @@ IsBroken status.Partial = ⊥
 IsBroken status.Usage = ⊥
 IsBroken status.ReadFault = ⊥
 
--- whatever answers the bytes begins so
-abbrev pub BeginsAnswer : List ℕ → List ℕ → Type 0
-BeginsAnswer bytes front = (output : List ℕ) → (result : Status) → IsAnswered bytes output result → (rest : List ℕ) × (output ≡ front ++ rest)
+-- each text that is meant begins so
+abbrev pub BeginsEach : (List ℕ → Status → Type 0) → List ℕ → Type 0
+BeginsEach Means prefix = (output : List ℕ) → (result : Status) → Means output result → (rest : List ℕ) × (output ≡ prefix ++ rest)

@@ -1,27 +1,23 @@
--- What a call did to the sink, which ends whole or breaks off.
-use Rattle.std.specs.Prelude.{◌≡◌, ℕ, ◌≤◌, ◌⊎◌, Bool, List, ◌++◌, Option}
+-- What a call wrote into the sink, whole or broken off. The contract of `flat` doesn't rest on this file.
+use Rattle.std.specs.Prelude.{◌≡◌, ℕ, ◌≤◌, ◌⊎◌, Bool, List, Option}
 use Rattle.std.specs.Io.KnownBytes.{Appends}
 use Rattle.fs_io.specs.Faults.{Rose}
 use Rattle.fs_cli.specs.declared.outcome.Status.{Status}
 use Rattle.fs_cli.specs.declared.outcome.Status.TheVariants as status
-use Rattle.fs_cli.specs.Answer.{IsWhole, IsBroken, status_of}
+use Rattle.fs_cli.specs.Answer.{IsWhole, IsBroken, status_of, BeginsEach}
 
 -- this text, with this status
 abbrev pub IsThisText : List ℕ → Status → List ℕ → Status → Type 0
 IsThisText text meant output result = (output ≡ text) × (result ≡ meant)
 
--- such a text, with the status that it has by whether it is partial
-abbrev pub WithStatus : (List ℕ → Bool → Type 0) → List ℕ → Status → Type 0
-WithStatus P output result = (partial : Bool) × P output partial × (result ≡ status_of partial)
+-- such a text, with its status by whether it is partial
+abbrev pub HasStatus : (List ℕ → Bool → Type 0) → List ℕ → Status → Type 0
+HasStatus P output result = (partial : Bool) × P output partial × (result ≡ status_of partial)
 
--- whatever is meant begins so
-abbrev pub BeginsEach : (List ℕ → Status → Type 0) → List ℕ → Type 0
-BeginsEach Means front = (output : List ℕ) → (result : Status) → Means output result → (rest : List ℕ) × (output ≡ front ++ rest)
-
--- a text that is meant with this status was written; or it broke off, and what was written begins whatever is meant
+-- a text that is meant with this status was written; or it broke off, and each text that is meant begins with what was written
 pub record Writes (Means : List ℕ → Status → Type 0) (result : Status) (held held' : Option (List ℕ)) (faults faults' : ℕ) : Type 0 where
   pub kinds : IsWhole result ⊎ IsBroken result
   pub whole : IsWhole result → (output : List ℕ) × Means output result × Appends held held' output
-  pub broken : IsBroken result → (front : List ℕ) × BeginsEach Means front × Appends held held' front
+  pub broken : IsBroken result → (prefix : List ℕ) × BeginsEach Means prefix × Appends held held' prefix
   pub write_fault : result ≡ status.WriteFault → Rose faults faults'
   pub never_falls : faults ≤ faults'

@@ -1,8 +1,10 @@
+// Answers written into a sink.
+
 ghost use Rattle.std.specs.Prelude.{◌∷◌, []};
 ghost use Rattle.fs_gluing.specs.Surface.{IsSurface};
-ghost use Rattle.fs_report.specs.Text.{fault_text, build_text, Answers};
+ghost use Rattle.fs_report.specs.Text.{fault_line, build_line, Answers};
 ghost use Rattle.fs_cli.specs.Answer.{IsWhole, AnswersAll};
-ghost use Rattle.fs_cli.specs.Writing.{Writes, IsThisText, WithStatus};
+ghost use Rattle.fs_cli.specs.Writing.{Writes, IsThisText, HasStatus};
 
 use crate::outcome::Status;
 use fs_gluing::{Fault, Surface};
@@ -15,7 +17,7 @@ use std::alloc::Global;
 // How many steps a command may take.
 const BUDGET: u32 = 100_000;
 
-// Writes a text, whose status this is.
+// Writes a text with its status.
 fn write_text<O: Sink>(text: &str, status: Status, out: &mut O) -> Status
     requires { IsWhole status }
     ensures { Writes (IsThisText text.now status) result (O.held out.old) (O.held out.new) (O.faults out.old) (O.faults out.new) }
@@ -28,7 +30,7 @@ fn write_text<O: Sink>(text: &str, status: Status, out: &mut O) -> Status
 
 // Writes the line of a fault.
 pub(crate) fn refuse<O: Sink>(alloc: Global, fault: &Fault, out: &mut O) -> Status
-    ensures { Writes (IsThisText (fault_text fault.now) Status.Refused) result (O.held out.old) (O.held out.new) (O.faults out.old) (O.faults out.new) }
+    ensures { Writes (IsThisText (fault_line fault.now) Status.Refused) result (O.held out.old) (O.held out.new) (O.faults out.old) (O.faults out.new) }
 {
     let Ok(line) = fault_line(alloc, fault) else {
         return Status::NoMemory;
@@ -36,9 +38,9 @@ pub(crate) fn refuse<O: Sink>(alloc: Global, fault: &Fault, out: &mut O) -> Stat
     write_text(&line, Status::Refused, out)
 }
 
-// Writes the line of the site where building left the width.
+// Writes the line of the site where building overflowed.
 pub(crate) fn stop_at<O: Sink>(alloc: Global, site: &Site, out: &mut O) -> Status
-    ensures { Writes (IsThisText (build_text site.now) Status.Partial) result (O.held out.old) (O.held out.new) (O.faults out.old) (O.faults out.new) }
+    ensures { Writes (IsThisText (build_line site.now) Status.Partial) result (O.held out.old) (O.held out.new) (O.faults out.old) (O.faults out.new) }
 {
     let Ok(line) = build_line(alloc, site) else {
         return Status::NoMemory;
@@ -46,10 +48,10 @@ pub(crate) fn stop_at<O: Sink>(alloc: Global, site: &Site, out: &mut O) -> Statu
     write_text(&line, Status::Partial, out)
 }
 
-// Writes the answer of one command.
+// Writes the answer to one command.
 fn answer_one<O: Sink>(alloc: Global, surface: &Surface, command: &Command, out: &mut O) -> Status
     requires { IsSurface surface.now }
-    ensures { Writes (WithStatus (Answers surface.now command.now)) result
+    ensures { Writes (HasStatus (Answers surface.now command.now)) result
         (O.held out.old) (O.held out.new) (O.faults out.old) (O.faults out.new) }
 {
     let Ok(answer) = find_answer(alloc, surface, command, BUDGET) else {
@@ -63,7 +65,7 @@ fn answer_one<O: Sink>(alloc: Global, surface: &Surface, command: &Command, out:
     write_text(&answer.text, status, out)
 }
 
-// Writes the answers of commands in order, each before the next one is sought.
+// Writes the answers to commands in order, each before the next one is found.
 pub(crate) fn answer_all<O: Sink>(
     alloc: Global,
     surface: &Surface,
@@ -71,7 +73,7 @@ pub(crate) fn answer_all<O: Sink>(
     out: &mut O,
 ) -> Status
     requires { IsSurface surface.now }
-    ensures { Writes (WithStatus (AnswersAll surface.now commands.now)) result
+    ensures { Writes (HasStatus (AnswersAll surface.now commands.now)) result
         (O.held out.old) (O.held out.new) (O.faults out.old) (O.faults out.new) }
 {
     let mut status = Status::Done;

@@ -1,3 +1,5 @@
+// The law of answers.
+
 ghost use Rattle.std.specs.Prelude.{◌≡◌, ℕ, List};
 ghost use Rattle.fs_cli.specs.declared.outcome.Status.{Status};
 ghost use Rattle.fs_cli.specs.Answer.{IsAnswered};

@@ -1,22 +1,24 @@
+// How a run ends.
+
 ghost use Rattle.std.specs.Prelude.{◌≡◌};
 ghost use Rattle.fs_cli.specs.Answer.{exit_code};
 
 /// How a run ended. Its number is the exit status of the program.
 #[derive(Clone, Copy, Debug, PartialEq, Eq)]
 pub enum Status {
-    /// Every command gave its defined answer.
+    /// Every command was answered whole.
     Done,
     /// The words aren't those of the command line; nothing was read or written.
     Usage,
     /// The job has a fault, which was written.
     Refused,
-    /// An exact result left the width, which was written.
+    /// A computation overflowed, which was written.
     Partial,
     /// The source failed; nothing was written.
     ReadFault,
     /// The sink failed; a prefix of the answer was written.
     WriteFault,
-    /// Memory ran out; a prefix of the answer was written.
+    /// Out of memory; a prefix of the answer was written.
     NoMemory,
 }
 

@@ -1,9 +1,11 @@
+// `flat`: a job read from a source and answered into a sink.
+
 ghost use Rattle.std.specs.Prelude.{◌≡◌, ◌↔◌, ◌<◌, ◌≤◌, ℕ, List, length, IfSome};
 ghost use Rattle.std.specs.Io.KnownBytes.{Appends, IsAtEnd, Keeps};
 ghost use Rattle.fs_io.specs.Faults.{Rose};
 ghost use Rattle.fs_io.specs.Whole.{most_bytes, TakesPrefix};
 ghost use Rattle.fs_job.specs.Reading as reading;
-ghost use Rattle.fs_cli.specs.Answer.{IsAnswered, IsWhole, IsBroken, BeginsAnswer};
+ghost use Rattle.fs_cli.specs.Answer.{IsAnswered, IsWhole, IsBroken, BeginsEach};
 ghost use Rattle.fs_cli.specs.Writing.{Writes};
 
 use crate::answering::{answer_all, refuse, stop_at};
@@ -14,8 +16,8 @@ use fs_job::{Form, JobStop, job_or_fault, read_job};
 use std::alloc::Global;
 
 // The shape of a job of polygons.
-fn shape_of(form: &Form) -> &Shape
-    ensures { result.now ≡ reading.shape_of form.now }
+fn form_shape(form: &Form) -> &Shape
+    ensures { result.now ≡ reading.form_shape form.now }
 {
     match form {
         Form::Polygons(shape) => shape,
@@ -27,14 +29,14 @@ fn answer<O: Sink>(alloc: Global, bytes: &[u8], out: &mut O) -> Status
     requires { length bytes.now ≤ most_bytes }
     ensures { Writes (IsAnswered bytes.now) result (O.held out.old) (O.held out.new) (O.faults out.old) (O.faults out.new) }
 {
-    // Each text is one job or has one first fault, so a front of its answer is a front of each.
+    // Each text is one job or has one first fault, so its answer is unique.
     job_or_fault();
     let job = match read_job(alloc, bytes) {
         Ok(job) => job,
         Err(JobStop::Fault(fault)) => return refuse(alloc, &fault, out),
         Err(JobStop::NoMemory) => return Status::NoMemory,
     };
-    match build(alloc, job.field, shape_of(&job.form)) {
+    match build(alloc, job.field, form_shape(&job.form)) {
         Ok(surface) => answer_all(alloc, &surface, job.commands.as_slice(), out),
         Err(BuildStop::Fault(fault)) => refuse(alloc, &fault, out),
         Err(BuildStop::Overflow(site)) => stop_at(alloc, &site, out),
@@ -45,8 +47,8 @@ fn answer<O: Sink>(alloc: Global, bytes: &[u8], out: &mut O) -> Status
 /// Reads a job, answers it, and says how that went.
 ///
 /// No word is admitted. `Refused` writes the line of the first fault. `Partial` writes the line of
-/// the site where building left the width, or the answers of the commands in order, of which at least
-/// one isn't whole. `Done` writes the answers of the commands in order: nothing where there are none.
+/// the site where building overflowed, or the answers to the commands in order, of which at least
+/// one isn't whole. `Done` writes the answers to the commands in order: nothing where there are none.
 pub fn flat<I: Source, O: Sink>(
     alloc: Global,
     words: &[String],
@@ -59,20 +61,20 @@ pub fn flat<I: Source, O: Sink>(
         × (I.faults input.new ≡ I.faults input.old) × (O.held out.new ≡ O.held out.old)
         × (O.faults out.new ≡ O.faults out.old) }
 
-    // The whole answer stands behind what the sink held.
+    // The whole answer was appended to what the sink held.
     ensures whole { IsWhole result → IfSome (I.left input.old) (λ bytes.
         (output : List ℕ) × IsAnswered bytes output result × Appends (O.held out.old) (O.held out.new) output) }
-    // The source was read to its end, but for a text that is too long.
+    // The source was read to its end, except for a text that is too long.
     ensures end { IsWhole result → IfSome (I.left input.old) (λ bytes.
         length bytes ≤ most_bytes → IsAtEnd (I.left input.new)) }
     // Where the sink failed or memory ran out, the sink got a prefix of the answer.
     ensures broken { IsBroken result → IfSome (I.left input.old) (λ bytes.
-        (front : List ℕ) × BeginsAnswer bytes front × Appends (O.held out.old) (O.held out.new) front) }
+        (prefix : List ℕ) × BeginsEach (IsAnswered bytes) prefix × Appends (O.held out.old) (O.held out.new) prefix) }
     ensures read_fault { result ≡ Status.ReadFault
         → Keeps (O.held out.old) (O.held out.new) × Rose (I.faults input.old) (I.faults input.new) }
     ensures write_fault { result ≡ Status.WriteFault → Rose (O.faults out.old) (O.faults out.new) }
 
-    // Whatever comes, a prefix of what was left was taken, and the counts didn't fall.
+    // In any case a prefix of what was left was taken, and the counts didn't fall.
     ensures taken { TakesPrefix (I.left input.old) (I.left input.new) }
     ensures input_count { I.faults input.old ≤ I.faults input.new }
     ensures out_count { O.faults out.old ≤ O.faults out.new }

@@ -1,5 +1,6 @@
 pub mod Pieces
 pub mod Statement
+pub mod Draft
 pub mod Grammar
 pub mod Reading
 pub mod SiteText

@@ -1,4 +1,4 @@
--- How a site is printed: its name, and its numbers.
+-- How a site is printed: its name and its numbers.
 use Rattle.std.specs.Prelude.{ℕ, List, ◌++◌, codes}
 use Rattle.std.specs.Fmt.{decimal}
 use Rattle.fs_plane.specs.declared.sites.Site.{Site}

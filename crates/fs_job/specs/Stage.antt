@@ -1,39 +1,25 @@
--- What the reader holds between two lines, and where a line by its form leads.
-use Rattle.std.specs.Prelude.{◌≡◌, ℕ, Result, Ok, Err}
-use Rattle.std.specs.List.{AllByRecursion}
-use Rattle.fs_fraction.specs.declared.number.NumberFault.{NumberFault}
-use Rattle.fs_gluing.specs.declared.faults.Fault.TheVariants as faults
+-- What the reader holds between two lines, and what it returns for a line. The contract of `flat` doesn't rest on this file.
+use Rattle.std.specs.Prelude.{Result, Ok, Err}
 use Rattle.fs_job.specs.declared.draft_job.DraftJob.{DraftJob}
 use Rattle.fs_job.specs.declared.drafts.Stage.{Stage}
 use Rattle.fs_job.specs.declared.drafts.Stage.TheVariants as stages
 use Rattle.fs_job.specs.declared.job.JobStop.{JobStop}
 use Rattle.fs_job.specs.declared.job.JobStop.TheVariants as stops
-use Rattle.fs_job.specs.Statement.{Statement, numbers}
-use Rattle.fs_job.specs.Grammar.{Draft, Progress, Nothing, Headed, Drafted, Ended, Outcome, Next, Faulty, draft_of, MayCome, HasRoom, IsNumber, FirstUnread, number_fault, MakesSense, Adds}
+use Rattle.fs_job.specs.Draft.{Draft, Progress, nothing, headed, drafted, ended, Outcome, to_progress, to_fault}
 
--- a job so far, without how it is kept
-abbrev pub drafted : DraftJob → Draft
-drafted draft = record { d = draft.field.d; polygons = draft.shape.polygons; glues = draft.shape.glues; commands = draft.commands }
+-- the draft that the reader holds
+abbrev pub kept_draft : DraftJob → Draft
+kept_draft draft = record { d = draft.field.d; polygons = draft.shape.polygons; glues = draft.shape.glues; commands = draft.commands }
 
+-- how far the lines have come, by what the reader holds
 abbrev pub progress_of : Stage → Progress
-progress_of stages.Start = Nothing
-progress_of stages.Headed = Headed
-progress_of (stages.Drafted draft) = Drafted (drafted draft)
-progress_of (stages.Ended draft) = Ended (drafted draft)
+progress_of stages.Start = nothing
+progress_of stages.Headed = headed
+progress_of (stages.Drafted draft) = drafted (kept_draft draft)
+progress_of (stages.Ended draft) = ended (kept_draft draft)
 
--- what came of a line has the property, unless memory ran out
-abbrev pub Comes : (Outcome → Type 0) → Result Stage JobStop → Type 0
-Comes P (Ok stage) = P (Next (progress_of stage))
-Comes P (Err (stops.Fault fault)) = P (Faulty fault)
-Comes P (Err stops.NoMemory) = Unit {0}
-
--- where a line that makes this statement leads
-pub data Follows (n : ℕ) (before : Progress) (s : Statement) (outcome : Outcome) : Type 0 where
-  misplaced : ¬ MayCome before s → outcome ≡ Faulty (faults.BadLine n) → Follows n before s outcome
-  crowded : MayCome before s → ¬ HasRoom (draft_of before) s → outcome ≡ Faulty (faults.TooMany n) → Follows n before s outcome
-  unread : (fault : NumberFault) → MayCome before s → HasRoom (draft_of before) s → FirstUnread (numbers s) fault
-      → outcome ≡ Faulty (number_fault n fault) → Follows n before s outcome
-  senseless : MayCome before s → HasRoom (draft_of before) s → AllByRecursion IsNumber (numbers s) → ¬ MakesSense s
-      → outcome ≡ Faulty faults.BadField → Follows n before s outcome
-  taken : (after : Progress) → MayCome before s → HasRoom (draft_of before) s → MakesSense s → Adds n (draft_of before) s after
-      → outcome ≡ Next after → Follows n before s outcome
+-- the outcome that is returned has P; out of memory is no outcome
+abbrev pub ReturnsOutcome : (Outcome → Type 0) → Result Stage JobStop → Type 0
+ReturnsOutcome P (Ok stage) = P (to_progress (progress_of stage))
+ReturnsOutcome P (Err (stops.Fault fault)) = P (to_fault fault)
+ReturnsOutcome P (Err stops.NoMemory) = Unit {0}

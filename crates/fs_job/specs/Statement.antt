@@ -1,4 +1,4 @@
--- What a line of a job states, as far as its form goes: numbers are still texts.
+-- What a line of a job states, its numbers being still texts.
 use Rattle.std.specs.Prelude.{◌≡◌, ℕ, ◌≤◌, List, [], ◌∷◌, ◌==◌, length, Contains, codes}
 use Rattle.std.specs.List.{flat_map}
 use Rattle.std.specs.Str.Parse.{IsNumeral, digits_value}
@@ -30,43 +30,43 @@ pub record Pair : Type 0 where
 abbrev pub IsPair : List ℕ → Pair → Type 0
 IsPair word pair = pieces (λ b. b == 44) word ≡ pair.x ∷ pair.y ∷ []
 
--- word for word
+-- each word is the pair at its index
 abbrev pub ArePairs : List (List ℕ) → List Pair → Type 0
 ArePairs [] [] = Unit {0}
 ArePairs [] (pair ∷ pairs) = ⊥
 ArePairs (word ∷ words) [] = ⊥
 ArePairs (word ∷ words) (pair ∷ pairs) = IsPair word pair × ArePairs words pairs
 
--- a line by its form
+-- what a line states
 pub data Statement : Type 0 where
-  Field_line : ℕ → Statement
-  Polygon_line : List Pair → Statement
-  Glue_line : Corner → Corner → Statement
-  Command_line : Command → Statement
-  End_line : Statement
+  field_line : ℕ → Statement
+  polygon_line : List Pair → Statement
+  glue_line : Corner → Corner → Statement
+  command_line : Command → Statement
+  end_line : Statement
 
--- the command words that are built
-abbrev pub Built : List (List ℕ)
-Built = codes "check" ∷ codes "stratum" ∷ []
+-- the words by which a command is named
+abbrev pub command_words : List (List ℕ)
+command_words = codes "check" ∷ codes "stratum" ∷ []
 
 -- the words of each command
 abbrev pub SpellsCommand : List (List ℕ) → Command → Type 0
 SpellsCommand words Check = words ≡ codes "check" ∷ []
 SpellsCommand words Stratum = words ≡ codes "stratum" ∷ []
 
--- the words have the form of this statement
-abbrev pub Shows : List (List ℕ) → Statement → Type 0
-Shows words (Field_line d) = (digits : List ℕ) × (words ≡ codes "field" ∷ digits ∷ []) × SpellsNumeral 4 digits d
-Shows words (Polygon_line pairs) = (rest : List (List ℕ)) × (words ≡ codes "polygon" ∷ rest) × ArePairs rest pairs
-Shows words (Glue_line one two) =
+-- the words spell this statement
+abbrev pub SpellsStatement : List (List ℕ) → Statement → Type 0
+SpellsStatement words (field_line d) = (digits : List ℕ) × (words ≡ codes "field" ∷ digits ∷ []) × SpellsNumeral 4 digits d
+SpellsStatement words (polygon_line pairs) = (rest : List (List ℕ)) × (words ≡ codes "polygon" ∷ rest) × ArePairs rest pairs
+SpellsStatement words (glue_line one two) =
     (one_text : List ℕ) × (two_text : List ℕ) × (words ≡ codes "glue" ∷ one_text ∷ two_text ∷ []) × SpellsCorner one_text one × SpellsCorner two_text two
-Shows words (Command_line command) = (word : List ℕ) × (rest : List (List ℕ)) × (words ≡ word ∷ rest) × Contains Built word × SpellsCommand words command
-Shows words End_line = words ≡ codes "end" ∷ []
+SpellsStatement words (command_line command) = (word : List ℕ) × (rest : List (List ℕ)) × (words ≡ word ∷ rest) × Contains command_words word × SpellsCommand words command
+SpellsStatement words end_line = words ≡ codes "end" ∷ []
 
--- the texts of the numbers on it, from left to right
-abbrev pub numbers : Statement → List (List ℕ)
-numbers (Field_line d) = []
-numbers (Polygon_line pairs) = flat_map (λ pair. pair.x ∷ pair.y ∷ []) pairs
-numbers (Glue_line one two) = []
-numbers (Command_line command) = []
-numbers End_line = []
+-- the texts of its numbers, from left to right
+abbrev pub number_texts : Statement → List (List ℕ)
+number_texts (field_line d) = []
+number_texts (polygon_line pairs) = flat_map (λ pair. pair.x ∷ pair.y ∷ []) pairs
+number_texts (glue_line one two) = []
+number_texts (command_line command) = []
+number_texts end_line = []

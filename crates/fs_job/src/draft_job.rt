@@ -1,3 +1,5 @@
+// The job that is made line by line.
+
 ghost use Rattle.std.specs.Prelude.{◌≡◌, ◌≤◌, length, sum_by};
 
 use crate::job::{Command, Form, Job};
@@ -5,7 +7,7 @@ use fs_gluing::{Sequence, Shape};
 use fs_quadratic::Field;
 use std::alloc::Global;
 
-// What the lines of a job said so far. It counts the sides.
+// What the lines of a job so far said, and the number of sides.
 #[derive(Drop)]
 pub struct DraftJob {
     pub field: Field,
@@ -19,12 +21,12 @@ pub struct DraftJob {
 
 impl DraftJob {
     ghost use Rattle.std.specs.Prelude.{[]};
-    ghost use Rattle.fs_job.specs.Stage.{drafted};
-    ghost use Rattle.fs_job.specs.Reading.{described};
+    ghost use Rattle.fs_job.specs.Stage.{kept_draft};
+    ghost use Rattle.fs_job.specs.Reading.{job_draft};
 
     // A job of this field, without polygons.
     pub fn new(alloc: Global, field: Field) -> DraftJob
-        ensures { drafted result ≡ record { d = field.d; polygons = []; glues = []; commands = [] } }
+        ensures { kept_draft result ≡ record { d = field.d; polygons = []; glues = []; commands = [] } }
     {
         DraftJob {
             field,
@@ -37,9 +39,9 @@ impl DraftJob {
         }
     }
 
-    // The job, to which nothing is added any more.
+    // The job, once all its lines are read.
     pub fn into_job(self) -> Job
-        ensures { described result ≡ drafted self }
+        ensures { job_draft result ≡ kept_draft self }
     {
         Job {
             field: self.field,

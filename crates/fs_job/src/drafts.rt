@@ -1,14 +1,16 @@
+// What each line adds to the job, or its fault.
+
 ghost use Rattle.std.specs.Prelude.{◌≡◌, length};
 ghost use Rattle.fs_job.specs.Pieces.{words_of};
-ghost use Rattle.fs_job.specs.Statement.{ArePairs, Field_line, Polygon_line, Glue_line, Command_line, End_line};
-ghost use Rattle.fs_job.specs.Grammar.{Headed, Drafted};
+ghost use Rattle.fs_job.specs.Statement.{ArePairs, field_line, polygon_line, glue_line, command_line, end_line};
+ghost use Rattle.fs_job.specs.Draft.{headed, drafted, StatementLeads};
+ghost use Rattle.fs_job.specs.Stage.{kept_draft, ReturnsOutcome};
 ghost use Rattle.fs_job.specs.Line.{pairs_of, statement_of, IsCounted};
-ghost use Rattle.fs_job.specs.Stage.{drafted, Comes, Follows};
 
 use crate::draft_job::DraftJob;
-use crate::forms::{Line, Pairs};
 use crate::job::{Command, JobStop};
 use crate::points::read_points;
+use crate::statements::{Line, Pairs};
 use fs_gluing::{Fault, Glue};
 use fs_plane::Corner;
 use fs_quadratic::Field;
@@ -20,7 +22,7 @@ const MOST_SIDES: usize = 1024;
 
 const MOST_COMMANDS: usize = 256;
 
-// How far the lines have come, and what they said.
+// What the lines so far said.
 #[derive(Drop)]
 pub enum Stage {
     Start,
@@ -29,7 +31,7 @@ pub enum Stage {
     Ended(DraftJob),
 }
 
-// The line has no form that may come there.
+// The line states nothing that is allowed there.
 fn bad_line(number: u32) -> JobStop
     ensures { result ≡ JobStop.Fault (Fault.BadLine number) }
 {
@@ -43,9 +45,9 @@ fn too_many(number: u32) -> JobStop
     JobStop::Fault(Fault::TooMany { line: number })
 }
 
-// The first line behind the header: the field.
+// The first line after the header: the field.
 pub fn begin(alloc: Global, number: u32, line: Line<'_>) -> Result<Stage, JobStop>
-    ensures { Comes (Follows number Headed (statement_of line.entry)) result }
+    ensures { ReturnsOutcome (StatementLeads number headed (statement_of line.entry)) result }
 {
     let Line::Field(d) = line else {
         return Err(bad_line(number));
@@ -56,7 +58,7 @@ pub fn begin(alloc: Global, number: u32, line: Line<'_>) -> Result<Stage, JobSto
     }
 }
 
-// A polygon line, the forms of whose words are known.
+// A polygon line, whose words are pairs.
 fn add_polygon(
     alloc: Global,
     mut draft: DraftJob,
@@ -65,7 +67,7 @@ fn add_polygon(
 ) -> Result<Stage, JobStop>
     requires pairs { ArePairs (words_of pairs.words.now) (pairs_of (words_of pairs.words.now)) }
     requires count { pairs.count ≡ length (words_of pairs.words.now) }
-    ensures { Comes (Follows number (Drafted (drafted draft)) (Polygon_line (pairs_of (words_of pairs.entry.words.now)))) result }
+    ensures { ReturnsOutcome (StatementLeads number (drafted (kept_draft draft)) (polygon_line (pairs_of (words_of pairs.entry.words.now)))) result }
 {
     if !draft.commands.is_empty() {
         return Err(bad_line(number));
@@ -81,7 +83,7 @@ fn add_polygon(
 
 // A glue line.
 fn add_glue(mut draft: DraftJob, number: u32, one: Corner, two: Corner) -> Result<Stage, JobStop>
-    ensures { Comes (Follows number (Drafted (drafted draft)) (Glue_line one two)) result }
+    ensures { ReturnsOutcome (StatementLeads number (drafted (kept_draft draft)) (glue_line one two)) result }
 {
     if !draft.commands.is_empty() {
         return Err(bad_line(number));
@@ -96,7 +98,7 @@ fn add_glue(mut draft: DraftJob, number: u32, one: Corner, two: Corner) -> Resul
 
 // A command line.
 fn add_command(mut draft: DraftJob, number: u32, command: Command) -> Result<Stage, JobStop>
-    ensures { Comes (Follows number (Drafted (drafted draft)) (Command_line command)) result }
+    ensures { ReturnsOutcome (StatementLeads number (drafted (kept_draft draft)) (command_line command)) result }
 {
     if draft.shape.polygons.is_empty() {
         return Err(bad_line(number));
@@ -110,7 +112,7 @@ fn add_command(mut draft: DraftJob, number: u32, command: Command) -> Result<Sta
 
 // The last line.
 fn end(draft: DraftJob, number: u32) -> Result<Stage, JobStop>
-    ensures { Comes (Follows number (Drafted (drafted draft)) End_line) result }
+    ensures { ReturnsOutcome (StatementLeads number (drafted (kept_draft draft)) end_line) result }
 {
     if draft.shape.polygons.is_empty() {
         return Err(bad_line(number));
@@ -118,7 +120,7 @@ fn end(draft: DraftJob, number: u32) -> Result<Stage, JobStop>
     Ok(Stage::Ended(draft))
 }
 
-// A line behind the field.
+// A line after the field.
 pub fn add_line(
     alloc: Global,
     draft: DraftJob,
@@ -126,7 +128,7 @@ pub fn add_line(
     line: Line<'_>,
 ) -> Result<Stage, JobStop>
     requires { IsCounted line }
-    ensures { Comes (Follows number (Drafted (drafted draft)) (statement_of line.entry)) result }
+    ensures { ReturnsOutcome (StatementLeads number (drafted (kept_draft draft)) (statement_of line.entry)) result }
 {
     match line {
         Line::Polygon(pairs) => add_polygon(alloc, draft, number, pairs),

@@ -1,3 +1,5 @@
+// Jobs, their commands, and why bytes are none.
+
 ghost use Rattle.std.specs.Prelude.{◌≡◌};
 ghost use Rattle.fs_job.specs.declared.job.JobStop.TheVariants.{NoMemory};
 
@@ -17,7 +19,7 @@ pub enum Command {
 /// How a job describes its surface.
 #[derive(Drop)]
 pub enum Form {
-    /// By polygons and their glued sides, in true size.
+    /// By polygons and their glued sides, unscaled.
     Polygons(Shape),
 }
 
@@ -34,7 +36,7 @@ pub struct Job {
 pub enum JobStop {
     /// The bytes are no job.
     Fault(Fault),
-    /// Memory ran out.
+    /// Out of memory.
     NoMemory,
 }
 

@@ -3,7 +3,6 @@
 
 mod draft_job;
 mod drafts;
-mod forms;
 mod job;
 mod laws;
 mod lines;
@@ -11,8 +10,7 @@ mod pieces;
 mod points;
 mod reading;
 mod sites;
-#[cfg(test)]
-mod tests;
+mod statements;
 mod words;
 
 pub use job::{Command, Form, Job, JobStop};

@@ -1,3 +1,5 @@
+// The lines of a text.
+
 ghost use Rattle.std.specs.Prelude.{◌≡◌, ◌<◌, [], ◌∷◌, MatchOption, length};
 ghost use Rattle.fs_job.specs.Pieces.{lines_of};
 ghost use Rattle.fs_job.specs.Cuts.{DropsReturn};

@@ -1,9 +1,11 @@
+// Texts cut at a byte.
+
 ghost use Rattle.std.specs.Prelude.{◌≡◌, ◌≢◌, ℕ, List, [], ◌∷◌, ◌==◌, MatchOption};
 ghost use Rattle.std.specs.List.{AllByRecursion};
 ghost use Rattle.fs_job.specs.Pieces.{pieces};
 ghost use Rattle.fs_job.specs.Cuts.{IsCut};
 
-// The text before the first separator, and the text behind it.
+// The text before the first separator, and the text after it.
 pub fn cut(text: &[u8], separator: u8) -> Option<(&[u8], &[u8])>
     ensures { MatchOption result
         (AllByRecursion (λ b. b ≢ separator) text.now)
@@ -17,15 +19,15 @@ pub fn cut(text: &[u8], separator: u8) -> Option<(&[u8], &[u8])>
     None
 }
 
-// The texts before and behind the only separator, where there is exactly one.
+// The texts before and after the only separator, where there is exactly one.
 pub fn cut_once(text: &[u8], separator: u8) -> Option<(&[u8], &[u8])>
     ensures { MatchOption result
-        ((front back : List ℕ) → pieces (λ b. b == separator) text.now ≢ front ∷ back ∷ [])
+        ((prefix rest : List ℕ) → pieces (λ b. b == separator) text.now ≢ prefix ∷ rest ∷ [])
         (λ parts. pieces (λ b. b == separator) text.now ≡ parts.0.now ∷ parts.1.now ∷ []) }
 {
-    let (front, back) = cut(text, separator)?;
-    match cut(back, separator) {
+    let (prefix, rest) = cut(text, separator)?;
+    match cut(rest, separator) {
         Some(_) => None,
-        None => Some((front, back)),
+        None => Some((prefix, rest)),
     }
 }

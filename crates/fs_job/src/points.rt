@@ -1,14 +1,16 @@
+// The numbers of a polygon line.
+
 ghost use Rattle.std.specs.Prelude.{◌≡◌, ◌⊎◌, List, Ok, [], ◌∷◌, IfOk, IfErr};
 ghost use Rattle.fs_fraction.specs.Number.{Reads};
 ghost use Rattle.fs_fraction.specs.declared.number.NumberFault.{NumberFault};
 ghost use Rattle.fs_job.specs.Pieces.{words_of};
-ghost use Rattle.fs_job.specs.Statement.{Pair, IsPair, ArePairs, Polygon_line, numbers};
-ghost use Rattle.fs_job.specs.Grammar.{ArePoints, FirstUnread, number_fault};
+ghost use Rattle.fs_job.specs.Statement.{Pair, IsPair, ArePairs, polygon_line, number_texts};
+ghost use Rattle.fs_job.specs.Draft.{ArePoints, HasBadNumber, number_fault};
 ghost use Rattle.fs_job.specs.Line.{pair_of, pairs_of};
 
-use crate::forms::Pairs;
 use crate::job::JobStop;
 use crate::pieces::cut;
+use crate::statements::Pairs;
 use crate::words::next_word;
 use fs_fraction::{NumberFault, read_number};
 use fs_gluing::{Fault, Point, Sequence};
@@ -24,7 +26,7 @@ fn number_fault(number: u32, fault: NumberFault) -> Fault
     }
 }
 
-// The texts before and behind the comma of a pair.
+// The texts before and after the comma of a pair.
 fn split_pair(word: &[u8]) -> (&[u8], &[u8])
     requires { IsPair word.now (pair_of word.now) }
     ensures x { result.0.now ≡ (pair_of word.now).x }
@@ -37,7 +39,7 @@ fn split_pair(word: &[u8]) -> (&[u8], &[u8])
 fn read_point(word: &[u8]) -> Result<Point, NumberFault>
     requires { IsPair word.now (pair_of word.now) }
     ensures point { IfOk result (λ point. Reads (pair_of word.now).x (Ok point.x) × Reads (pair_of word.now).y (Ok point.y)) }
-    ensures fault { IfErr result (FirstUnread ((pair_of word.now).x ∷ (pair_of word.now).y ∷ [])) }
+    ensures fault { IfErr result (HasBadNumber ((pair_of word.now).x ∷ (pair_of word.now).y ∷ [])) }
 {
     let (x, y) = split_pair(word);
     Ok(Point {
@@ -52,7 +54,7 @@ pub fn read_points(alloc: Global, number: u32, pairs: Pairs<'_>) -> Result<Seque
     ensures points { IfOk result (ArePoints (pairs_of (words_of pairs.entry.words.now))) }
     ensures fault { IfErr result (λ e. (e ≡ JobStop.NoMemory)
         ⊎ ((fault : NumberFault) × (e ≡ JobStop.Fault (number_fault number fault))
-        × FirstUnread (numbers (Polygon_line (pairs_of (words_of pairs.entry.words.now)))) fault)) }
+        × HasBadNumber (number_texts (polygon_line (pairs_of (words_of pairs.entry.words.now)))) fault)) }
 {
     let mut points = Sequence::new(alloc);
     let mut rest = pairs.words;

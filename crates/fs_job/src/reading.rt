@@ -1,39 +1,42 @@
+// `read_job`: the job that bytes are, or their first fault.
+
 ghost use Rattle.std.specs.Prelude.{◌≡◌, ◌≢◌, ◌⊎◌, ◌≤◌, [], length, IfOk, IfErr};
 ghost use Rattle.fs_gluing.specs.declared.faults.Fault.{Fault};
 ghost use Rattle.fs_gluing.specs.Shape.{IsWithinLimits};
 ghost use Rattle.fs_job.specs.Pieces.{IsText, words_of};
-ghost use Rattle.fs_job.specs.Grammar.{Nothing, Leads, ReadsJob, IsFirstFault};
-ghost use Rattle.fs_job.specs.Reading.{described, shape_of};
-ghost use Rattle.fs_job.specs.Stage.{Comes, progress_of};
+ghost use Rattle.fs_job.specs.Draft.{nothing};
+ghost use Rattle.fs_job.specs.Grammar.{Leads, IsJob, IsFirstFault};
+ghost use Rattle.fs_job.specs.Stage.{ReturnsOutcome, progress_of};
+ghost use Rattle.fs_job.specs.Reading.{job_draft, form_shape};
 
 use crate::drafts::{Stage, add_line, begin};
-use crate::forms::{is_header, read_line};
 use crate::job::{Job, JobStop};
 use crate::lines::next_line;
+use crate::statements::{is_header, read_line};
 use crate::words::{is_text, next_word};
 use fs_gluing::Fault;
 use std::alloc::Global;
 
-// Where a line behind the header leads, which isn't blank.
-fn behind_header(alloc: Global, stage: Stage, number: u32, line: &[u8]) -> Result<Stage, JobStop>
+// Where a line after the header leads, which isn't blank.
+fn after_header(alloc: Global, stage: Stage, number: u32, line: &[u8]) -> Result<Stage, JobStop>
     requires text { IsText line.now }
     requires words { words_of line.now ≢ [] }
-    requires header { progress_of stage ≢ Nothing }
-    ensures { Comes (Leads number (progress_of stage) line.now) result }
+    requires header { progress_of stage ≢ nothing }
+    ensures { ReturnsOutcome (Leads number (progress_of stage) line.now) result }
 {
-    let Some(form) = read_line(line) else {
+    let Some(statement) = read_line(line) else {
         return Err(JobStop::Fault(Fault::BadLine { line: number }));
     };
     match stage {
-        Stage::Headed => begin(alloc, number, form),
-        Stage::Drafted(draft) => add_line(alloc, draft, number, form),
+        Stage::Headed => begin(alloc, number, statement),
+        Stage::Drafted(draft) => add_line(alloc, draft, number, statement),
         _ => Err(JobStop::Fault(Fault::BadLine { line: number })),
     }
 }
 
 // Where a line with this number leads.
 fn step(alloc: Global, stage: Stage, number: u32, line: &[u8]) -> Result<Stage, JobStop>
-    ensures { Comes (Leads number (progress_of stage) line.now) result }
+    ensures { ReturnsOutcome (Leads number (progress_of stage) line.now) result }
 {
     if !is_text(line) {
         return Err(JobStop::Fault(Fault::NotAscii { line: number }));
@@ -44,22 +47,22 @@ fn step(alloc: Global, stage: Stage, number: u32, line: &[u8]) -> Result<Stage, 
     match stage {
         Stage::Start if is_header(line) => Ok(Stage::Headed),
         Stage::Start => Err(JobStop::Fault(Fault::BadHeader)),
-        stage => behind_header(alloc, stage, number, line),
+        stage => after_header(alloc, stage, number, line),
     }
 }
 
 /// The job that these bytes are, of which there are at most 1,048,576.
 ///
-/// A fault exactly where they are no job: the first one, line by line, and within a line in this
+/// It fails exactly where they are no job, by the first fault, line by line, and on a line in this
 /// order. `NotAscii`, a byte other than a tab and those from the space to the tilde. `BadHeader`, a
-/// first line that isn't `flatsurf 1`. `BadLine`, a line that may not come there or has the wrong
-/// form. `TooMany`, a 257th polygon or command, or a 1,025th side. `BadNumber` or `Wide`, the first
+/// first line that isn't `flatsurf 1`. `BadLine`, a line that states nothing that is allowed
+/// there. `TooMany`, a 257th polygon or command, or a 1,025th side. `BadNumber` or `Wide`, the first
 /// number that isn't read. `BadField`, a d that isn't squarefree or not in 2 to 999. `NoEnd` where
-/// no line is at fault and `end` doesn't come. `NoMemory` may come at any time.
+/// no line has a fault and `end` doesn't come. `NoMemory` may come at any time.
 pub fn read_job(alloc: Global, bytes: &[u8]) -> Result<Job, JobStop>
     requires { length bytes.now ≤ 1048576 }
-    ensures job { IfOk result (λ job. ReadsJob bytes.now (described job)) }
-    ensures limits { IfOk result (λ job. IsWithinLimits (shape_of job.form)) }
+    ensures job { IfOk result (λ job. IsJob bytes.now (job_draft job)) }
+    ensures limits { IfOk result (λ job. IsWithinLimits (form_shape job.form)) }
     ensures fault { IfErr result (λ e. (e ≡ JobStop.NoMemory)
         ⊎ ((fault : Fault) × (e ≡ JobStop.Fault fault) × IsFirstFault bytes.now fault)) }
 {

@@ -1,3 +1,5 @@
+// The texts of sites.
+
 ghost use Rattle.std.specs.Prelude.{◌≡◌, IfOk, string_bytes};
 ghost use Rattle.fs_job.specs.SiteText.{site_text};
 
@@ -5,7 +7,7 @@ use fs_fraction::NoMemory;
 use fs_plane::Site;
 use std::alloc::Global;
 
-/// The name of a site and its numbers, as they stand behind `overflow`.
+/// The name of a site and its numbers, as they are printed after `overflow`.
 pub fn print_site(alloc: Global, site: &Site) -> Result<String, NoMemory>
     ensures { IfOk result (λ text. string_bytes text ≡ site_text site.now) }
 {

@@ -1,3 +1,5 @@
+// The words of a line.
+
 ghost use Rattle.std.specs.Prelude.{◌≡◌, ◌≢◌, ◌<◌, ◌≤◌, ◌↔◌, ℕ, List, [], ◌∷◌, ◌++◌, true, false, IsTrue, MatchOption, length};
 ghost use Rattle.std.specs.List.{AllByRecursion};
 ghost use Rattle.fs_job.specs.Pieces.{is_blank, words_of, IsTextByte, IsText};

@@ -1,7 +1,6 @@
-pub mod Counts
-pub mod Falling
-pub mod SomeOrders
-pub mod TextsOfLists
-pub mod TrueArea
+pub mod Descending
+pub mod SortedOrders
+pub mod ListTexts
+pub mod UnscaledArea
 pub mod StratumText
-pub mod OneAnswer
+pub mod AnswersUnique

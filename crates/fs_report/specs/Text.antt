@@ -1,4 +1,4 @@
--- The lines that are answered. Each ends with one line feed.
+-- The texts of faults, of overflows, and of the answers to commands. The words of a line end before its line feed.
 use Rattle.std.specs.Prelude.{◌≡◌, ℕ, Bool, true, false, Ok, Err, List, [], ◌∷◌, ◌++◌, length, sum_by, codes}
 use Rattle.std.specs.Fmt.{decimal}
 use Rattle.fs_fraction.specs.Fraction.{Fraction}
@@ -13,49 +13,57 @@ use Rattle.fs_stratum.specs.Cones.{AreCones, IsGenus}
 use Rattle.fs_job.specs.declared.job.Command.{Command}
 use Rattle.fs_job.specs.declared.job.Command.TheVariants.{Check, Stratum}
 use Rattle.fs_job.specs.SiteText.{site_text}
-use Rattle.fs_report.specs.Area.{AnswersArea}
+use Rattle.fs_report.specs.Area.{GivesArea}
 use Rattle.fs_report.specs.Orders.{AreOrders}
 
--- a line feed
-abbrev pub end : List ℕ
-end = 10 ∷ []
+-- a line: its words, and a line feed
+abbrev pub line_of : List ℕ → List ℕ
+line_of words = words ++ 10 ∷ []
 
 -- i.j
 abbrev pub corner_text : Corner → List ℕ
 corner_text c = decimal c.polygon ++ codes "." ++ decimal c.side
 
 -- the number and the name of a fault, and where it is
-abbrev pub fault_text : Fault → List ℕ
-fault_text (NotAscii line) = codes "refused 1 NotAscii line " ++ decimal line ++ end
-fault_text BadHeader = codes "refused 2 BadHeader" ++ end
-fault_text (BadLine line) = codes "refused 3 BadLine line " ++ decimal line ++ end
-fault_text (BadNumber line) = codes "refused 4 BadNumber line " ++ decimal line ++ end
-fault_text BadField = codes "refused 5 BadField" ++ end
-fault_text (TooMany line) = codes "refused 6 TooMany line " ++ decimal line ++ end
-fault_text NoEnd = codes "refused 7 NoEnd" ++ end
-fault_text (Wide line) = codes "refused 9 Wide line " ++ decimal line ++ end
-fault_text (FewSides polygon) = codes "refused 10 FewSides " ++ decimal polygon ++ end
-fault_text (NotClosed polygon) = codes "refused 11 NotClosed " ++ decimal polygon ++ end
-fault_text (NotConvex corner) = codes "refused 12 NotConvex " ++ corner_text corner ++ end
-fault_text (TurnsTwice polygon) = codes "refused 13 TurnsTwice " ++ decimal polygon ++ end
-fault_text (NoSuchSide line) = codes "refused 14 NoSuchSide line " ++ decimal line ++ end
-fault_text (GluedTwice line) = codes "refused 15 GluedTwice line " ++ decimal line ++ end
-fault_text (NotOpposite line) = codes "refused 16 NotOpposite line " ++ decimal line ++ end
-fault_text (Unglued side) = codes "refused 17 Unglued " ++ corner_text side ++ end
-fault_text (Apart polygon) = codes "refused 18 Apart " ++ decimal polygon ++ end
-fault_text TooLong = codes "refused 20 TooLong" ++ end
+abbrev pub fault_words : Fault → List ℕ
+fault_words (NotAscii line) = codes "refused 1 NotAscii line " ++ decimal line
+fault_words BadHeader = codes "refused 2 BadHeader"
+fault_words (BadLine line) = codes "refused 3 BadLine line " ++ decimal line
+fault_words (BadNumber line) = codes "refused 4 BadNumber line " ++ decimal line
+fault_words BadField = codes "refused 5 BadField"
+fault_words (TooMany line) = codes "refused 6 TooMany line " ++ decimal line
+fault_words NoEnd = codes "refused 7 NoEnd"
+fault_words (Wide line) = codes "refused 9 Wide line " ++ decimal line
+fault_words (FewSides polygon) = codes "refused 10 FewSides " ++ decimal polygon
+fault_words (NotClosed polygon) = codes "refused 11 NotClosed " ++ decimal polygon
+fault_words (NotConvex corner) = codes "refused 12 NotConvex " ++ corner_text corner
+fault_words (TurnsTwice polygon) = codes "refused 13 TurnsTwice " ++ decimal polygon
+fault_words (NoSuchSide line) = codes "refused 14 NoSuchSide line " ++ decimal line
+fault_words (GluedTwice line) = codes "refused 15 GluedTwice line " ++ decimal line
+fault_words (NotOpposite line) = codes "refused 16 NotOpposite line " ++ decimal line
+fault_words (Unglued side) = codes "refused 17 Unglued " ++ corner_text side
+fault_words (Apart polygon) = codes "refused 18 Apart " ++ decimal polygon
+fault_words TooLong = codes "refused 20 TooLong"
 
--- building, or a command, left the width there
-abbrev pub overflow_text : List ℕ → Site → List ℕ
-overflow_text what site = what ++ codes " overflow " ++ site_text site ++ end
+-- the line of a fault
+abbrev pub fault_line : Fault → List ℕ
+fault_line fault = line_of (fault_words fault)
 
--- where building left the width
-abbrev pub build_text : Site → List ℕ
-build_text site = overflow_text (codes "build") site
+-- building, or a command, overflowed there
+abbrev pub overflow_words : List ℕ → Site → List ℕ
+overflow_words what site = what ++ codes " overflow " ++ site_text site
+
+-- the line of an overflow
+abbrev pub overflow_line : List ℕ → Site → List ℕ
+overflow_line what site = line_of (overflow_words what site)
+
+-- the line of an overflow in building
+abbrev pub build_line : Site → List ℕ
+build_line site = overflow_line (codes "build") site
 
 -- how many polygons and sides a surface has
-abbrev pub check_text : ℕ → ℕ → List ℕ
-check_text polygons sides = codes "check polygons " ++ decimal polygons ++ codes " sides " ++ decimal sides ++ end
+abbrev pub check_line : ℕ → ℕ → List ℕ
+check_line polygons sides = line_of (codes "check polygons " ++ decimal polygons ++ codes " sides " ++ decimal sides)
 
 -- numbers with commas between them
 abbrev pub with_commas : List ℕ → List ℕ
@@ -65,9 +73,9 @@ with_commas (n ∷ (m ∷ ns)) = decimal n ++ codes "," ++ with_commas (m ∷ ns
 
 -- the line of a vertex: its least corner and its cone number
 abbrev pub vertex_line : Cone → List ℕ
-vertex_line cone = codes "vertex " ++ corner_text cone.first ++ codes " turns " ++ decimal cone.k ++ end
+vertex_line cone = line_of (codes "vertex " ++ corner_text cone.first ++ codes " turns " ++ decimal cone.k)
 
--- those of vertices, in order
+-- the lines of vertices, in order
 abbrev pub vertex_lines : List Cone → List ℕ
 vertex_lines [] = []
 vertex_lines (cone ∷ cones) = vertex_line cone ++ vertex_lines cones
@@ -75,22 +83,22 @@ vertex_lines (cone ∷ cones) = vertex_line cone ++ vertex_lines cones
 -- the stratum, the genus, how many vertices there are, and the area
 abbrev pub stratum_line : List ℕ → ℕ → ℕ → Fraction → List ℕ
 stratum_line orders genus vertices area =
-    codes "stratum H(" ++ with_commas orders ++ codes ") genus " ++ decimal genus ++ codes " vertices " ++ decimal vertices ++ codes " area " ++ spelling area ++ end
+    line_of (codes "stratum H(" ++ with_commas orders ++ codes ") genus " ++ decimal genus ++ codes " vertices " ++ decimal vertices ++ codes " area " ++ spelling area)
 
 -- that, and a line for each vertex
 abbrev pub stratum_text : List ℕ → ℕ → List Cone → Fraction → List ℕ
 stratum_text orders genus cones area = stratum_line orders genus (length cones) area ++ vertex_lines cones
 
--- what `stratum` answers of a surface
+-- the answer to `stratum` about a surface
 pub data AnswersStratum (s : GluedPolygons) (text : List ℕ) (partial : Bool) : Type 0 where
   -- its vertices with their cone numbers, their orders, its genus and its area
   whole : (cones : List Cone) → (orders : List ℕ) → (genus : ℕ) → (area : Fraction)
-      → AreCones s cones → AreOrders cones orders → IsGenus s (length cones) genus → AnswersArea s (Ok area)
+      → AreCones s cones → AreOrders cones orders → IsGenus s (length cones) genus → GivesArea s (Ok area)
       → text ≡ stratum_text orders genus cones area → partial ≡ false → AnswersStratum s text partial
-  -- the area leaves the width there
-  stopped : (site : Site) → AnswersArea s (Err site) → text ≡ overflow_text (codes "stratum") site → partial ≡ true → AnswersStratum s text partial
+  -- the area overflows there
+  overflowed : (site : Site) → GivesArea s (Err site) → text ≡ overflow_line (codes "stratum") site → partial ≡ true → AnswersStratum s text partial
 
--- what a command answers of a surface: this text, and whether it stands in the place of the whole answer
+-- the answer to a command about a surface: this text, and whether it is in place of the whole answer
 abbrev pub Answers : GluedPolygons → Command → List ℕ → Bool → Type 0
-Answers s Check text partial = (text ≡ check_text (length s.polygons) (sum_by length s.polygons)) × (partial ≡ false)
+Answers s Check text partial = (text ≡ check_line (length s.polygons) (sum_by length s.polygons)) × (partial ≡ false)
 Answers s Stratum text partial = AnswersStratum s text partial

@@ -1,5 +1,7 @@
+// Answers to commands.
+
 ghost use Rattle.std.specs.Prelude.{◌≡◌, ◌≤◌, length, sum_by, IfOk, string_bytes};
-ghost use Rattle.fs_report.specs.Text.{check_text, Answers};
+ghost use Rattle.fs_report.specs.Text.{check_line, Answers};
 
 use crate::stratum::answer_stratum;
 use fs_fraction::NoMemory;
@@ -7,16 +9,16 @@ use fs_gluing::Surface;
 use fs_job::Command;
 use std::alloc::{AllocError, Global};
 
-/// What a command answers.
+/// The answer to a command.
 #[derive(Drop)]
 pub struct Answer {
     /// Its lines.
     pub text: String,
-    /// Whether that is an overflow or a spent budget in the place of the whole answer.
+    /// Whether it is an overflow or a spent budget in place of the whole answer.
     pub partial: bool,
 }
 
-// How many sides the polygons have together.
+// The number of sides of all polygons.
 fn count_sides(surface: &Surface) -> u16
     ensures { result ≡ sum_by length surface.now.polygons }
 {
@@ -29,7 +31,7 @@ fn count_sides(surface: &Surface) -> u16
 
 // The line with these two numbers.
 fn counts_line(alloc: Global, polygons: u16, sides: u16) -> Result<String, AllocError>
-    ensures { IfOk result (λ line. string_bytes line ≡ check_text polygons sides) }
+    ensures { IfOk result (λ line. string_bytes line ≡ check_line polygons sides) }
 {
     format!(in alloc; "check polygons {polygons} sides {sides}\n")
 }
@@ -37,14 +39,14 @@ fn counts_line(alloc: Global, polygons: u16, sides: u16) -> Result<String, Alloc
 // The line that counts the polygons and the sides.
 fn check_line(alloc: Global, surface: &Surface) -> Result<String, NoMemory>
     ensures { IfOk result (λ line.
-        string_bytes line ≡ check_text (length surface.now.polygons) (sum_by length surface.now.polygons)) }
+        string_bytes line ≡ check_line (length surface.now.polygons) (sum_by length surface.now.polygons)) }
 {
     let sides = count_sides(surface);
     let line = counts_line(alloc, surface.polygons(), sides)?;
     Ok(line)
 }
 
-/// What a command answers of a surface, within a budget of 1 to 1,000,000 steps.
+/// The answer to a command about a surface, within a budget of 1 to 1,000,000 steps.
 pub fn find_answer(
     alloc: Global,
     surface: &Surface,

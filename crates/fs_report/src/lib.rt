@@ -1,4 +1,4 @@
-// What is answered to each command, and the lines of faults and of sites of building.
+// The texts of answers to commands, of faults, and of the sites where building overflows.
 #![tactic(auto)]
 
 mod answers;

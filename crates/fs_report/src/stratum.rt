@@ -1,3 +1,5 @@
+// The answer to `stratum`.
+
 ghost use Rattle.std.specs.Prelude.{◌≡◌, ◌≤◌, ◌++◌, ℕ, List, IfOk, OnOk, codes, if◌then◌else◌, length, string_bytes};
 ghost use Rattle.std.specs.Fmt.{decimal};
 ghost use Rattle.std.specs.List.{AllByRecursion};
@@ -15,7 +17,7 @@ use fs_gluing::{Sequence, Surface};
 use fs_stratum::{Cone, classes, genus};
 use std::alloc::{AllocError, Global};
 
-// What `stratum` answers.
+// The answer to `stratum`.
 pub fn answer_stratum(alloc: Global, surface: &Surface) -> Result<Answer, NoMemory>
     ensures { IfOk result (λ answer. AnswersStratum surface.now (string_bytes answer.text) answer.partial) }
 {

@@ -8,6 +8,8 @@ mod corners;
 #[cfg(test)]
 mod fractions;
 #[cfg(test)]
+mod jobs;
+#[cfg(test)]
 mod numbers;
 #[cfg(test)]
 mod spellings;

@@ -1,7 +1,7 @@
 use Rattle.std.proofs.Common.{[], false, refl, arith}
 use Rattle.std.proofs.KnownBytes.{Appends-nil}
 use Rattle.fs_job.specs.declared.job.Command.TheVariants.{Check}
-use Rattle.fs_cli.proofs.Texts.{done_more, partial_more, broken_off, all_written}
+use Rattle.fs_cli.proofs.CommandTexts.{done_more, partial_more, broken_off, all_written}
 use Rattle.fs_cli.proofs.answering.answer_all.Goals as goal
 use Rattle.fs_cli.proofs.answering.answer_all.Goals.{in-Done, in-Partial}
 

@@ -1,5 +1,5 @@
 use Rattle.std.proofs.Common.{◌≤◌}
-use Rattle.fs_cli.proofs.Texts.{AreAnswered}
+use Rattle.fs_cli.proofs.CommandTexts.{AreAnswered}
 use Rattle.fs_cli.proofs.answering.answer_all.Given as goal
 
 -- the commands so far were answered

@@ -1,6 +1,6 @@
 use Rattle.std.proofs.Common.{sym, ap, ◌∙◌}
 use Rattle.fs_cli.specs.Answer.{status_of}
-use Rattle.fs_cli.proofs.Written.{writes_along, writes_command}
+use Rattle.fs_cli.proofs.CallWrites.{writes_along, writes_command}
 use Rattle.fs_cli.proofs.answering.answer_one.Goals as goal
 use Rattle.fs_cli.proofs.answering.answer_one.Goals.{then-answer, else-answer}
 

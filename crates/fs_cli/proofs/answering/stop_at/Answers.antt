@@ -1,5 +1,5 @@
 use Rattle.std.proofs.Common.{◌∙◌}
-use Rattle.fs_cli.proofs.Written.{writes_along}
+use Rattle.fs_cli.proofs.CallWrites.{writes_along}
 use Rattle.fs_cli.proofs.answering.stop_at.Goals as goal
 
 pub returns : goal.returns

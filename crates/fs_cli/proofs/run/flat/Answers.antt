@@ -1,24 +1,24 @@
 use Rattle.std.proofs.Common.{List, ℕ, Err, sym, ap, subst}
 use Rattle.std.specs.Io.KnownBytes.{Consumes}
-use Rattle.fs_cli.proofs.Written.{read_whole, begins_with_nothing, begins_too_long}
+use Rattle.fs_cli.proofs.CallWrites.{all_read, nothing_begins, too_long_begins}
 use Rattle.fs_cli.proofs.run.flat.Goals as goal
 
 pub returns-in-Ok-clause-whole : goal.returns-in-Ok-clause-whole
 returns-in-Ok-clause-whole g c = λ whole.
     let left = g.I.Source.left in
     let taken = subst (λ (bytes : List ℕ). Consumes (left c.args.input.now) (left c.read_all.new.source) bytes) (sym c.deref.ensures.value) c.in-Ok.ensures.bytes in
-    read_whole (left c.args.input.now) (left c.read_all.new.source) c.deref.result.now taken c.in-Ok.ensures.end _ (c.answer.ensures.whole whole)
+    all_read (left c.args.input.now) (left c.read_all.new.source) c.deref.result.now taken c.in-Ok.ensures.end _ (c.answer.ensures.whole whole)
 
 pub returns-in-Ok-clause-broken : goal.returns-in-Ok-clause-broken
 returns-in-Ok-clause-broken g c = λ broken.
     let left = g.I.Source.left in
     let taken = subst (λ (bytes : List ℕ). Consumes (left c.args.input.now) (left c.read_all.new.source) bytes) (sym c.deref.ensures.value) c.in-Ok.ensures.bytes in
-    read_whole (left c.args.input.now) (left c.read_all.new.source) c.deref.result.now taken c.in-Ok.ensures.end _ (c.answer.ensures.broken broken)
+    all_read (left c.args.input.now) (left c.read_all.new.source) c.deref.result.now taken c.in-Ok.ensures.end _ (c.answer.ensures.broken broken)
 
 pub returns-in-Err-TooLong-clause-broken : goal.returns-in-Err-TooLong-clause-broken
 returns-in-Err-TooLong-clause-broken g c = λ broken.
     let long = c.in-Err-TooLong.ensures.too_long (ap Err c.in-Err-TooLong.field-0-is) in
-    begins_too_long _ _ long.0 _ _ long.1 long.2 (c.refuse.ensures.broken broken)
+    too_long_begins _ _ long.0 _ _ long.1 long.2 (c.refuse.ensures.broken broken)
 
 pub returns-in-Err-NoMemory-clause-broken : goal.returns-in-Err-NoMemory-clause-broken
-returns-in-Err-NoMemory-clause-broken g c = λ _. begins_with_nothing _ _
+returns-in-Err-NoMemory-clause-broken g c = λ _. nothing_begins _ _

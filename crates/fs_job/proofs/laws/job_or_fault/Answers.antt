@@ -1,4 +1,4 @@
-use Rattle.fs_job.proofs.Paths.{job_unique, fault_unique, not_both, not_neither}
+use Rattle.fs_job.proofs.JobLines.{job_unique, fault_unique, not_both, not_neither}
 use Rattle.fs_job.proofs.laws.job_or_fault.Goals as goal
 
 pub returns : goal.returns

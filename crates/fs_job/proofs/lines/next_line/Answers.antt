@@ -1,5 +1,5 @@
 use Rattle.std.proofs.Common.{length, ap, ◌∙◌, arith, length-append}
-use Rattle.fs_job.proofs.OfLines.{lines-cut, lines-single}
+use Rattle.fs_job.proofs.TextLines.{lines-cut, lines-single}
 use Rattle.fs_job.proofs.lines.next_line.Goals as goal
 
 pub returns-in-Some : goal.returns-in-Some

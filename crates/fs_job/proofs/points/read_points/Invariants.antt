@@ -1,6 +1,6 @@
 use Rattle.std.proofs.Common.{length}
 use Rattle.fs_job.specs.Pieces.{words_of}
-use Rattle.fs_job.proofs.Read.{PointsBefore}
+use Rattle.fs_job.proofs.PolygonNumbers.{PointsBefore}
 use Rattle.fs_job.proofs.points.read_points.Given as goal
 
 -- the points so far are those of the words so far

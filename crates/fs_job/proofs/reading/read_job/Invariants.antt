@@ -1,14 +1,14 @@
 use Rattle.std.proofs.Common.{◌+◌, ◌≤◌, length}
 use Rattle.fs_job.specs.Stage.{progress_of}
-use Rattle.fs_job.proofs.OfLines.{lines_left, bytes_left}
-use Rattle.fs_job.proofs.Paths.{IsReady, LedTo}
+use Rattle.fs_job.proofs.TextLines.{lines_left, bytes_left}
+use Rattle.fs_job.proofs.JobLines.{HasPolygonAtEnd, LedTo}
 use Rattle.fs_job.proofs.reading.read_job.Given as goal
 
 -- the lines so far lead to the stage
 abbrev pub invariant-loop-rest : goal.invariant-loop-rest
 invariant-loop-rest l = record {
   led : LedTo l.fn.bytes (lines_left l.rest) l.number (progress_of l.stage);
-  ready : IsReady (progress_of l.stage);
+  ready : HasPolygonAtEnd (progress_of l.stage);
   few : l.number + bytes_left l.rest ≤ length l.fn.bytes + 1;
 }
 

@@ -2,6 +2,6 @@ use Rattle.std.proofs.Common.{take}
 use Rattle.fs_job.specs.Pieces.{IsText}
 use Rattle.fs_job.proofs.words.is_text.Given as goal
 
--- each byte so far may stand on a line
+-- each byte so far is one that a line may have
 abbrev pub invariant-loop-byte : goal.invariant-loop-byte
 invariant-loop-byte l = IsText (take l.byte-index l.line)

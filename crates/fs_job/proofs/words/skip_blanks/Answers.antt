@@ -1,5 +1,5 @@
 use Rattle.std.proofs.Common.{arith}
-use Rattle.fs_job.proofs.OfWords.{words-skipped, words-all_blank}
+use Rattle.fs_job.proofs.TextWords.{words-skipped, words-all_blank}
 use Rattle.fs_job.proofs.words.skip_blanks.Goals as goal
 
 pub returns-then-not-is_blank-clause-words : goal.returns-then-not-is_blank-clause-words

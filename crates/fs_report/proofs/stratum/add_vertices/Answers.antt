@@ -1,4 +1,4 @@
-use Rattle.fs_report.proofs.TextsOfLists.{vertices_written}
+use Rattle.fs_report.proofs.ListTexts.{vertices_written}
 use Rattle.fs_report.proofs.stratum.add_vertices.Goals as goal
 
 pub loop-cone-preserved : goal.loop-cone-preserved

@@ -1,4 +1,4 @@
-use Rattle.fs_report.proofs.SomeOrders.{orders_sorted}
+use Rattle.fs_report.proofs.SortedOrders.{orders_sorted}
 use Rattle.fs_report.proofs.stratum.find_orders.Goals as goal
 
 pub returns : goal.returns

@@ -1,0 +1,125 @@
+-- What a call wrote, from what the calls in it wrote.
+use Rattle.std.proofs.Common.{◌≡◌, ◌≢◌, ℕ, ◌+◌, ◌<◌, ◌≤◌, ◌⊎◌, Bool, List, [], ◌++◌, Option, None, Some, IfSome, Err, length, refl, sym, ap, ◌∙◌, subst, inl, inr, arith, append-nil, length-append}
+use Rattle.std.specs.Io.KnownBytes.{Consumes, Appends, IsAtEnd}
+use Rattle.std.specs.List.{AllByRecursion}
+use Rattle.std.proofs.KnownBytes.{Appends-nil}
+use Rattle.fs_io.specs.Whole.{most_bytes}
+use Rattle.fs_gluing.specs.declared.faults.Fault.{Fault}
+use Rattle.fs_gluing.specs.declared.faults.Fault.TheVariants.{TooLong}
+use Rattle.fs_gluing.specs.declared.faults.BuildStop.{BuildStop}
+use Rattle.fs_gluing.specs.declared.faults.BuildStop.TheVariants as stops
+use Rattle.fs_gluing.specs.FirstFault.{Test, Judges, PassesOf, tests_of, IsFirstFailure, answer}
+use Rattle.fs_gluing.specs.Shape.{HasShape}
+use Rattle.fs_gluing.specs.Surface.{GluedPolygons, IsSurface}
+use Rattle.fs_job.specs.declared.job.Command.{Command}
+use Rattle.fs_job.specs.declared.job.JobStop.{JobStop}
+use Rattle.fs_job.specs.declared.job.JobStop.TheVariants as job_stops
+use Rattle.fs_job.specs.Draft.{Draft}
+use Rattle.fs_job.specs.Grammar.{IsJob, IsFirstFault}
+use Rattle.fs_report.specs.Text.{fault_line, Answers}
+use Rattle.fs_report.proofs.AnswersUnique.{answer_unique}
+use Rattle.fs_cli.specs.declared.outcome.Status.{Status}
+use Rattle.fs_cli.specs.declared.outcome.Status.TheVariants as status
+use Rattle.fs_cli.specs.Answer.{IsAnswered, no_job, not_built, answered, BeginsEach, draft_shape, stop_line, stop_status, AnswersAll, status_of}
+use Rattle.fs_cli.specs.Writing.{Writes, IsThisText, HasStatus}
+use Rattle.fs_cli.proofs.AnsweredUnique.{JobLaw, only_long, only_fault, only_stop, only_texts}
+
+-- each answer begins with the empty text
+pub nothing_begins : (old held : Option (List ℕ)) → IfSome old (λ bytes. (prefix : List ℕ) × BeginsEach (IsAnswered bytes) prefix × Appends held held prefix)
+nothing_begins None held = tt
+nothing_begins (Some bytes) held = ([], λ output result answered. (output, refl), Appends-nil held)
+
+-- bytes that are too many
+pub too_long_begins : (old new : Option (List ℕ)) (taken : List ℕ) (held held' : Option (List ℕ)) → Consumes old new taken → length taken ≡ most_bytes + 1
+    → (prefix : List ℕ) × BeginsEach (IsThisText (fault_line TooLong) status.Refused) prefix × Appends held held' prefix
+    → IfSome old (λ bytes. (prefix : List ℕ) × BeginsEach (IsAnswered bytes) prefix × Appends held held' prefix)
+too_long_begins None new taken held held' c many wrote = tt
+too_long_begins (Some bytes) None taken held held' c many wrote = absurd c
+too_long_begins (Some bytes) (Some rest) taken held held' c many wrote =
+    let long : most_bytes < length bytes = omega (arith, ap length c, length-append taken rest) in
+    (wrote.0, λ output r answered. wrote.1 output r (only_long bytes long output r answered), wrote.2)
+
+-- what was read to the end is all that was left
+pub all_read : (old new : Option (List ℕ)) (items : List ℕ) → Consumes old new items → IsAtEnd new → (P : List ℕ → Type 0) → P items → IfSome old P
+all_read None new items c e P p = tt
+all_read (Some bytes) None items c e P p = absurd c
+all_read (Some bytes) (Some rest) items c e P p = subst P (sym (c ∙ (ap (λ (ys : List ℕ). items ++ ys) e ∙ append-nil items))) p
+
+module _ (result : Status) (held held' : Option (List ℕ)) (faults faults' : ℕ) where
+  -- two relations that mean the same texts
+  writes_meant : (M N : List ℕ → Status → Type 0) → ((output : List ℕ) (r : Status) → M output r → N output r) → ((output : List ℕ) (r : Status) → N output r → M output r)
+      → Writes M result held held' faults faults' → Writes N result held held' faults faults'
+  writes_meant M N there back w = record {
+    kinds = w.kinds;
+    whole = λ whole. let wrote = w.whole whole in (wrote.0, there wrote.0 result wrote.1, wrote.2);
+    broken = λ broken. let wrote = w.broken broken in (wrote.0, λ output r means. wrote.1 output r (back output r means), wrote.2);
+    write_fault = w.write_fault;
+    never_falls = w.never_falls;
+  }
+
+  -- the relation means this text with this status, and no other
+  writes_just : (N : List ℕ → Status → Type 0) (text : List ℕ) (meant : Status) → N text meant → ((output : List ℕ) (r : Status) → N output r → IsThisText text meant output r)
+      → Writes (IsThisText text meant) result held held' faults faults' → Writes N result held held' faults faults'
+  writes_just N text meant holds only =
+      writes_meant (IsThisText text meant) N (λ output r just. subst (λ (t : List ℕ). N t r) (sym just.0) (subst (N text) (sym just.1) holds)) only
+
+  -- an equal text
+  pub writes_along : (text text' : List ℕ) (meant : Status) → text ≡ text' → Writes (IsThisText text meant) result held held' faults faults' → Writes (IsThisText text' meant) result held held' faults faults'
+  writes_along text text' meant e = subst (λ (t : List ℕ). Writes (IsThisText t meant) result held held' faults faults') e
+
+  -- equal commands
+  pub writes_commands : (s : GluedPolygons) (commands commands' : List Command) → commands ≡ commands'
+      → Writes (HasStatus (AnswersAll s commands)) result held held' faults faults' → Writes (HasStatus (AnswersAll s commands')) result held held' faults faults'
+  writes_commands s commands commands' e = subst (λ (cs : List Command). Writes (HasStatus (AnswersAll s cs)) result held held' faults faults') e
+
+  -- the text of a command
+  pub writes_command : (s : GluedPolygons) (command : Command) (text : List ℕ) (partial : Bool) (meant : Status) → IsSurface s → Answers s command text partial → meant ≡ status_of partial
+      → Writes (IsThisText text meant) result held held' faults faults' → Writes (HasStatus (Answers s command)) result held held' faults faults'
+  writes_command s command text partial meant surface answers is =
+      writes_just (HasStatus (Answers s command)) text meant (partial, answers, is)
+      (λ output r means.
+      let one = answer_unique s command output text means.0 partial surface means.1 answers in
+      (one.0, means.2 ∙ (ap status_of one.1 ∙ sym is)))
+
+  module _ (law : JobLaw) (bytes : List ℕ) (few : length bytes ≤ most_bytes) where
+    -- bytes that are no job
+    pub writes_fault : (e : JobStop) (fault : Fault) → e ≡ job_stops.Fault fault → (e ≡ job_stops.NoMemory) ⊎ ((f : Fault) × (e ≡ job_stops.Fault f) × IsFirstFault bytes f)
+        → Writes (IsThisText (fault_line fault) status.Refused) result held held' faults faults' → Writes (IsAnswered bytes) result held held' faults faults'
+    writes_fault e fault is told =
+        writes_just (IsAnswered bytes) (fault_line fault) status.Refused (no_job fault few first refl refl) (only_fault law bytes fault few first)
+      where
+        other_stops : job_stops.Fault fault ≡ job_stops.NoMemory → ⊥
+        other_stops f = cc
+
+        same_fault : {f : Fault} → job_stops.Fault fault ≡ job_stops.Fault f → fault ≡ f
+        same_fault g = cc
+
+        first : IsFirstFault bytes fault
+        first = elim told [
+          | inl none ↦ absurd (other_stops (sym is ∙ none))
+          | inr found ↦ subst (IsFirstFault bytes) (sym (same_fault (sym is ∙ found.1))) found.2
+        ]
+
+    -- a job whose shape isn't built
+    pub writes_stop : (draft : Draft) (e stop : BuildStop) → e ≡ stop → IsJob bytes draft → Judges draft.d (draft_shape draft) (Err e) → stop ≢ stops.NoMemory
+        → Writes (IsThisText (stop_line stop) (stop_status stop)) result held held' faults faults' → Writes (IsAnswered bytes) result held held' faults faults'
+    writes_stop draft e stop is reads judged some w = elim judged [
+      | inl none ↦ absurd (some (sym is ∙ none))
+      | inr failed ↦ stopped failed.0 failed.1 (sym is ∙ failed.2)
+    ]
+      where
+        stopped : (test : Test) → IsFirstFailure draft.d (draft_shape draft) test → stop ≡ answer test → Writes (IsAnswered bytes) result held held' faults faults'
+        stopped test first same =
+            writes_just (IsAnswered bytes) (stop_line stop) (stop_status stop) (not_built draft test few reads first (ap stop_status same) (ap stop_line same))
+            (λ output r means.
+            let just = only_stop law bytes draft test few reads first output r means in
+            (just.0 ∙ sym (ap stop_line same), just.1 ∙ sym (ap stop_status same))) w
+
+    -- a job whose surface is built
+    pub writes_texts : (draft : Draft) (s : GluedPolygons) → IsJob bytes draft → IsSurface s → HasShape draft.d (draft_shape draft) s
+        → AllByRecursion (PassesOf draft.d (draft_shape draft)) (tests_of (draft_shape draft))
+        → Writes (HasStatus (AnswersAll s draft.commands)) result held held' faults faults' → Writes (IsAnswered bytes) result held held' faults faults'
+    writes_texts draft s reads surface shape all =
+        writes_meant (HasStatus (AnswersAll s draft.commands)) (IsAnswered bytes)
+        (λ output r means. answered draft s means.0 few reads surface shape all means.1 means.2)
+        (only_texts law bytes draft s few reads shape all)

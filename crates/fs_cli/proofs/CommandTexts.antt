@@ -1,0 +1,184 @@
+-- The answers to commands, written one after the other.
+use Rattle.std.proofs.Common.{◌≡◌, ◌≢◌, ℕ, ◌+◌, ◌<◌, ◌≤◌, Bool, true, false, ◌||◌, List, [], ◌∷◌, ◌++◌, Option, length, take, drop, get_or, refl, sym, ap, ◌∙◌, subst, arith, inl, inr, append-nil, append_assoc, take-append-drop}
+use Rattle.std.specs.Io.KnownBytes.{Appends}
+use Rattle.std.proofs.KnownBytes.{Appends-trans}
+use Rattle.std.proofs.Math.Bool.{or_assoc, or-false}
+use Rattle.std.proofs.lemmas.List.{take_more, drop_more, take_all}
+use Rattle.fs_io.specs.Faults.{Rose}
+use Rattle.fs_gluing.specs.Surface.{GluedPolygons, IsSurface}
+use Rattle.fs_job.specs.declared.job.Command.{Command}
+use Rattle.fs_report.specs.Text.{Answers}
+use Rattle.fs_report.proofs.AnswersUnique.{answer_unique, answer_exists}
+use Rattle.fs_cli.specs.declared.outcome.Status.{Status}
+use Rattle.fs_cli.specs.declared.outcome.Status.TheVariants as status
+use Rattle.fs_cli.specs.Answer.{IsWhole, IsBroken, AnswersAll, status_of, BeginsEach}
+use Rattle.fs_cli.specs.Writing.{Writes, HasStatus}
+
+-- ---- the status of a text
+
+still_done : (p q : Bool) → status_of q ≡ status.Done → status_of (p || q) ≡ status_of p
+still_done p true e = cc
+still_done true false e = refl
+still_done false false e = refl
+
+now_partial : (p q : Bool) → status_of q ≡ status.Partial → status_of (p || q) ≡ status.Partial
+now_partial p false e = cc
+now_partial true true e = refl
+now_partial false true e = refl
+
+neither : (p : Bool) (result : Status) → result ≡ status_of p → result ≢ status.Done → result ≢ status.Partial → ⊥
+neither true result e done partial = partial e
+neither false result e done partial = done e
+
+is_whole : (p : Bool) → IsWhole (status_of p)
+is_whole true = tt
+is_whole false = tt
+
+not_broken : (p : Bool) → IsBroken (status_of p) → ⊥
+not_broken true b = b
+not_broken false b = b
+
+not_write_fault : (p : Bool) → status_of p ≡ status.WriteFault → ⊥
+not_write_fault true e = cc
+not_write_fault false e = cc
+
+-- the first i commands were answered, with this status so far
+abbrev pub AreAnswered : GluedPolygons → List Command → ℕ → Status → Option (List ℕ) → Option (List ℕ) → Type 0
+AreAnswered s commands i so_far held held' = (text : List ℕ) × HasStatus (AnswersAll s (take i commands)) text so_far × Appends held held' text
+
+module _ (s : GluedPolygons) (surface : IsSurface s) where
+  -- ---- commands have one text, and one way to be partial
+
+  -- commands have one text at most, partial or whole
+  pub answers_all_unique : (commands : List Command) (m n : List ℕ) (p q : Bool) → AnswersAll s commands m p → AnswersAll s commands n q → (m ≡ n) × (p ≡ q)
+  answers_all_unique [] m n p q a b = (a.0 ∙ sym b.0, a.1 ∙ sym b.1)
+  answers_all_unique (command ∷ commands) m n p q a b =
+      let one = answer_unique s command a.prefix b.prefix a.prefix_partial b.prefix_partial surface a.one b.one in
+      let other = answers_all_unique commands a.rest b.rest a.rest_partial b.rest_partial a.other b.other in
+      (cc, cc)
+
+  -- commands have a text
+  pub answers_all_exists : (commands : List Command) → ((output : List ℕ) (partial : Bool) → ¬ AnswersAll s commands output partial) → ⊥
+  answers_all_exists [] none = none [] false (refl, refl)
+  answers_all_exists (command ∷ commands) none =
+      answer_exists s command surface (λ m p one. answers_all_exists commands (λ n q other. none (m ++ n) (p || q)
+      (record { prefix = m; rest = n; prefix_partial = p; rest_partial = q; one = one; other = other; whole = refl; kind = refl })))
+
+  -- one command more, after the others
+  answers_all_append : (commands : List Command) (command : Command) (m n : List ℕ) (p q : Bool) → AnswersAll s commands m p → Answers s command n q
+      → AnswersAll s (commands ++ command ∷ []) (m ++ n) (p || q)
+  answers_all_append [] command m n p q a b = record {
+    prefix = n;
+    rest = [];
+    prefix_partial = q;
+    rest_partial = false;
+    one = b;
+    other = (refl, refl);
+    whole = ap (λ (text : List ℕ). text ++ n) a.0 ∙ sym (append-nil n);
+    kind = ap (λ (partial : Bool). partial || q) a.1 ∙ sym (or-false q);
+  }
+  answers_all_append (first ∷ commands) command m n p q a b = record {
+    prefix = a.prefix;
+    rest = a.rest ++ n;
+    prefix_partial = a.prefix_partial;
+    rest_partial = a.rest_partial || q;
+    one = a.one;
+    other = answers_all_append commands command a.rest n a.rest_partial q a.other b;
+    whole = ap (λ (text : List ℕ). text ++ n) a.whole ∙ append_assoc a.prefix a.rest n;
+    kind = ap (λ (partial : Bool). partial || q) a.kind ∙ or_assoc a.prefix_partial a.rest_partial q;
+  }
+
+  -- the texts of some commands, and what begins the text of the next one, begin the texts of all
+  module _ (command : Command) (later : List Command) (prefix : List ℕ) (begins : BeginsEach (HasStatus (Answers s command)) prefix) where
+    begin_all : (commands : List Command) (m output : List ℕ) (p q : Bool) → AnswersAll s commands m p → AnswersAll s (commands ++ command ∷ later) output q
+        → (rest : List ℕ) × (output ≡ (m ++ prefix) ++ rest)
+    begin_all [] m output p q a b =
+        let this = begins b.prefix (status_of b.prefix_partial) (b.prefix_partial, b.one, refl) in (
+          this.0 ++ b.rest,
+          b.whole
+              ∙ (ap (λ (text : List ℕ). text ++ b.rest) this.1
+              ∙ (append_assoc prefix this.0 b.rest
+              ∙ ap (λ (text : List ℕ). (text ++ prefix) ++ (this.0 ++ b.rest)) (sym a.0))),
+        )
+    begin_all (first ∷ commands) m output p q a b =
+        let same = answer_unique s first b.prefix a.prefix b.prefix_partial a.prefix_partial surface b.one a.one in
+        let more = begin_all commands a.rest b.rest a.rest_partial b.rest_partial a.other b.other in (
+          more.0,
+          b.whole
+              ∙ (ap (λ (text : List ℕ). text ++ b.rest) same.0
+              ∙ (ap (λ (text : List ℕ). a.prefix ++ text) more.1
+              ∙ (simp append_assoc refl
+              ∙ ap (λ (text : List ℕ). (text ++ prefix) ++ more.0) (sym a.whole)))),
+        )
+
+  -- ---- a call for each command
+
+  module _ (commands : List Command) where
+    module _ (i : ℕ) (d : Command) (h : i < length commands) (held before after : Option (List ℕ)) (result so_far : Status) (faults' faults'' : ℕ)
+        (w : Writes (HasStatus (Answers s (get_or commands i d))) result before after faults' faults'')
+        (written : AreAnswered s commands i so_far held before) where
+      abbrev this : Command
+      this = get_or commands i d
+
+      all_more : (m n : List ℕ) (p q : Bool) → AnswersAll s (take i commands) m p → Answers s this n q → AnswersAll s (take (i + 1) commands) (m ++ n) (p || q)
+      all_more m n p q a b = subst (λ (prefix : List Command). AnswersAll s prefix (m ++ n) (p || q)) (sym (take_more commands i d h)) (answers_all_append (take i commands) this m n p q a b)
+
+      -- its text was written whole
+      more_written : (next : Status) → IsWhole result → ((p q : Bool) → so_far ≡ status_of p → result ≡ status_of q → next ≡ status_of (p || q)) → AreAnswered s commands (i + 1) next held after
+      more_written next whole joined =
+          let wrote = w.whole whole in
+          let p = written.1.0 in
+          let q = wrote.1.0 in (
+            written.0 ++ wrote.0,
+            (p || q, all_more written.0 wrote.0 p q written.1.1 wrote.1.1, joined p q written.1.2 wrote.1.2),
+            Appends-trans held before after written.0 wrote.0 written.2 wrote.2,
+          )
+
+      -- the next command was answered whole
+      pub done_more : (next : Status) → result ≡ status.Done → next ≡ so_far → AreAnswered s commands (i + 1) next held after
+      done_more next done same = more_written next (subst IsWhole (sym done) tt) (λ p q before this. same ∙ (before ∙ sym (still_done p q (sym this ∙ done))))
+
+      -- the next command was answered in part
+      pub partial_more : (next : Status) → result ≡ status.Partial → next ≡ status.Partial → AreAnswered s commands (i + 1) next held after
+      partial_more next partial is = more_written next (subst IsWhole (sym partial) tt) (λ p q before this. is ∙ sym (now_partial p q (sym this ∙ partial)))
+
+      -- it broke off at this command
+      parts : commands ≡ take i commands ++ this ∷ drop (i + 1) commands
+      parts = sym (take-append-drop i commands) ∙ ap (λ (rest : List Command). take i commands ++ rest) (drop_more commands i d h)
+
+      begun : (prefix : List ℕ) → BeginsEach (HasStatus (Answers s this)) prefix → BeginsEach (HasStatus (AnswersAll s commands)) (written.0 ++ prefix)
+      begun prefix begins = λ output _ means.
+          begin_all this (drop (i + 1) commands) prefix begins (take i commands) written.0 output written.1.0 means.0 written.1.1
+          (subst (λ (all : List Command). AnswersAll s all output means.0) parts means.1)
+
+      rose : (faults : ℕ) → Rose faults' faults'' → faults ≤ faults' → Rose faults faults''
+      rose faults r f = elim r [ inl more ↦ inl (omega arith) | inr last ↦ inr last ]
+
+      -- writing broke off at the next command
+      pub broken_off : (faults : ℕ) → faults ≤ faults' → result ≢ status.Done → result ≢ status.Partial
+          → Writes (HasStatus (AnswersAll s commands)) result held after faults faults''
+      broken_off faults falls not_done not_partial =
+          let not_whole : ¬ IsWhole result = λ whole. let wrote = w.whole whole in neither wrote.1.0 result wrote.1.2 not_done not_partial in
+          record {
+            kinds = w.kinds;
+            whole = λ whole. absurd (not_whole whole);
+            broken = λ broken.
+                let prefix = w.broken broken in
+                (written.0 ++ prefix.0, begun prefix.0 prefix.1, Appends-trans held before after written.0 prefix.0 written.2 prefix.2);
+            write_fault = λ e. rose faults (w.write_fault e) falls;
+            never_falls = let later = w.never_falls in omega arith;
+          }
+
+    -- the last one was answered
+    pub all_written : (i : ℕ) (held held' : Option (List ℕ)) (result : Status) (faults faults' : ℕ) → length commands ≤ i → AreAnswered s commands i result held held' → faults ≤ faults'
+        → Writes (HasStatus (AnswersAll s commands)) result held held' faults faults'
+    all_written i held held' result faults faults' h written falls =
+        let p = written.1.0 in
+        let is = written.1.2 in
+        record {
+          kinds = inl (subst IsWhole (sym is) (is_whole p));
+          whole = λ _. (written.0, (p, subst (λ (all : List Command). AnswersAll s all written.0 p) (take_all i commands h) written.1.1, is), written.2);
+          broken = λ broken. absurd (not_broken p (subst IsBroken is broken));
+          write_fault = λ e. absurd (not_write_fault p (sym is ∙ e));
+          never_falls = falls;
+        }

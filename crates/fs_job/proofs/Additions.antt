@@ -1,0 +1,67 @@
+-- What a statement adds to a draft.
+use Rattle.std.proofs.Common.{◌≡◌, ◌≢◌, ℕ, ◌+◌, ◌<◌, ◌≤◌, ◌⊎◌, List, [], ◌∷◌, ◌++◌, Err, inl, inr, length, sum_by, refl, sym, ap, ◌∙◌, subst, arith}
+use Rattle.fs_lists.proofs.Sums.{lengths-append_one}
+use Rattle.fs_quadratic.specs.Radicand.{IsRadicand}
+use Rattle.fs_fraction.specs.declared.number.NumberFault.{NumberFault}
+use Rattle.fs_plane.specs.declared.corners.Corner.{Corner}
+use Rattle.fs_gluing.specs.declared.shapes.Glue.{Glue}
+use Rattle.fs_gluing.specs.declared.shapes.Point.{Point}
+use Rattle.fs_job.specs.declared.job.Command.{Command}
+use Rattle.fs_job.specs.declared.job.JobStop.{JobStop}
+use Rattle.fs_job.specs.declared.job.JobStop.TheVariants as stops
+use Rattle.fs_job.specs.Statement.{Statement, field_line, polygon_line, glue_line, command_line, end_line, number_texts}
+use Rattle.fs_job.specs.Draft.{Draft, headed, drafted, ended, to_progress, IsAllowed, most_commands, HasRoom, HasBadNumber, number_fault, ArePoints, StatementLeads, bad_number, accepted}
+use Rattle.fs_job.specs.Stage.{ReturnsOutcome}
+use Rattle.fs_job.specs.Line.{pairs_of}
+use Rattle.fs_job.proofs.Pairs.{length-pairs_of}
+use Rattle.fs_job.proofs.PolygonNumbers.{length-points}
+
+-- the field begins a draft
+pub adds_field : (n d e : ℕ) (after : Draft) → IsRadicand e → e ≡ d → after ≡ record { d = e; polygons = []; glues = []; commands = [] } → StatementLeads n headed (field_line d) (to_progress (drafted after))
+adds_field n d e after radicand same is =
+    accepted (drafted after) tt tt (subst IsRadicand same radicand) (ap drafted (is ∙ ap (λ (k : ℕ). record { d = k; polygons = []; glues = []; commands = [] }) same)) refl
+
+-- glue lines before the commands are added
+pub adds_glue : (n : ℕ) (draft : Draft) (one two : Corner) (glues : List Glue) → draft.commands ≡ [] → glues ≡ draft.glues ++ (record { line = n; one = one; two = two }) ∷ []
+    → StatementLeads n (drafted draft) (glue_line one two) (to_progress (drafted (record { d = draft.d; polygons = draft.polygons; glues = glues; commands = draft.commands })))
+adds_glue n draft one two glues none e =
+    accepted _ none tt tt (ap (λ (gs : List Glue). drafted (record { d = draft.d; polygons = draft.polygons; glues = gs; commands = draft.commands })) e) refl
+
+-- commands after a polygon are added, while there is room
+pub adds_command : (n : ℕ) (draft : Draft) (command : Command) (commands : List Command) → draft.polygons ≢ [] → length draft.commands < most_commands → commands ≡ draft.commands ++ command ∷ []
+    → StatementLeads n (drafted draft) (command_line command) (to_progress (drafted (record { d = draft.d; polygons = draft.polygons; glues = draft.glues; commands = commands })))
+adds_command n draft command commands some room e =
+    accepted _ some room tt (ap (λ (cs : List Command). drafted (record { d = draft.d; polygons = draft.polygons; glues = draft.glues; commands = cs })) e) refl
+
+-- the end is added after a polygon
+pub adds_end : (n : ℕ) (draft : Draft) → draft.polygons ≢ [] → StatementLeads n (drafted draft) end_line (to_progress (ended draft))
+adds_end n draft some = accepted (ended draft) some tt tt refl refl
+
+-- ---- polygons
+
+-- there is room for a polygon, by the number of its words
+pub has_room : (draft : Draft) (words : List (List ℕ)) (sides count : ℕ) → sides ≡ sum_by length draft.polygons → count ≡ length words → length draft.polygons < 256 → sides + count ≤ 1024 → HasRoom draft (polygon_line (pairs_of words))
+has_room draft words sides count e f few room = (few, omega (arith, length-pairs_of words))
+
+-- polygons before the commands are added, while there is room
+pub adds_polygon : (n : ℕ) (draft : Draft) (words : List (List ℕ)) (points : List Point) (polygons : List (List Point)) → draft.commands ≡ [] → HasRoom draft (polygon_line (pairs_of words))
+    → ArePoints (pairs_of words) points → polygons ≡ draft.polygons ++ points ∷ []
+    → StatementLeads n (drafted draft) (polygon_line (pairs_of words)) (to_progress (drafted (record { d = draft.d; polygons = polygons; glues = draft.glues; commands = draft.commands })))
+adds_polygon n draft words points polygons none room read e =
+    accepted _ none room tt (points, read, ap (λ (ps : List (List Point)). drafted (record { d = draft.d; polygons = ps; glues = draft.glues; commands = draft.commands })) e) refl
+
+-- a text that is no number stops the line
+pub leads_to_bad_number : (n : ℕ) (draft : Draft) (s : Statement) (e : JobStop) → IsAllowed (drafted draft) s → HasRoom draft s
+    → (e ≡ stops.NoMemory) ⊎ ((fault : NumberFault) × (e ≡ stops.Fault (number_fault n fault)) × HasBadNumber (number_texts s) fault) → ReturnsOutcome (StatementLeads n (drafted draft) s) (Err e)
+leads_to_bad_number n draft s e may room told = elim told [
+  | inl none ↦ subst (λ (x : JobStop). ReturnsOutcome (StatementLeads n (drafted draft) s) (Err x)) (sym none) tt
+  | inr found ↦ subst (λ (x : JobStop). ReturnsOutcome (StatementLeads n (drafted draft) s) (Err x)) (sym found.1) (bad_number found.0 may room found.2 refl)
+]
+
+-- the number of sides that is kept
+pub sides_counted : (polygons after : List (List Point)) (words : List (List ℕ)) (points : List Point) (sides count : ℕ) → sides ≡ sum_by length polygons → count ≡ length words → ArePoints (pairs_of words) points
+    → after ≡ polygons ++ points ∷ [] → sides + count ≡ sum_by length after
+sides_counted polygons after words points sides count e f read is =
+    let total = ap (sum_by length) is ∙ lengths-append_one polygons points in
+    let long = length-points (pairs_of words) points read in
+    omega (arith, length-pairs_of words)

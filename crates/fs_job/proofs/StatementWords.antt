@@ -1,0 +1,208 @@
+-- Words spell at most one statement, and which words spell none.
+use Rattle.std.proofs.Common.{◌≡◌, ◌≢◌, ℕ, List, [], ◌∷◌, refl, sym, ap, ◌∙◌, subst, arith}
+use Rattle.std.specs.Prelude.{codes, if◌then◌else◌}
+use Rattle.std.specs.Str.{bytes_eq}
+use Rattle.fs_plane.specs.declared.corners.Corner.{Corner}
+use Rattle.fs_job.specs.declared.job.Command.{Command}
+use Rattle.fs_job.specs.declared.job.Command.TheVariants.{Check, Stratum}
+use Rattle.fs_job.specs.Statement.{SpellsNumeral, SpellsCorner, ArePairs, Statement, field_line, polygon_line, glue_line, command_line, end_line, SpellsStatement}
+use Rattle.fs_job.specs.Line.{SpellsField, SpellsGlue}
+use Rattle.fs_lists.proofs.Equal.{heads_equal, tails_equal}
+use Rattle.fs_job.proofs.Pairs.{pairs_unique}
+
+-- ---- numerals and corners
+
+-- a text spells one number at most
+numeral_unique : (most : ℕ) (text : List ℕ) (m n : ℕ) → SpellsNumeral most text m → SpellsNumeral most text n → m ≡ n
+numeral_unique most text m n s t = s.value ∙ sym t.value
+
+-- two equal texts spell one number
+numeral_unique_along : (most : ℕ) (text text' : List ℕ) (m n : ℕ) → text ≡ text' → SpellsNumeral most text m → SpellsNumeral most text' n → m ≡ n
+numeral_unique_along most text text' m n e s t = numeral_unique most text m n s (subst (λ u. SpellsNumeral most u n) (sym e) t)
+
+-- a text spells one corner at most
+corner_unique : (text : List ℕ) (c e : Corner) → SpellsCorner text c → SpellsCorner text e → c ≡ e
+corner_unique text c e s t =
+    let whole = sym s.whole ∙ t.whole in
+    let one = heads_equal s.polygon_text t.polygon_text (s.side_text ∷ []) (t.side_text ∷ []) whole in
+    let two = heads_equal s.side_text t.side_text [] [] (tails_equal s.polygon_text t.polygon_text (s.side_text ∷ []) (t.side_text ∷ []) whole) in
+    let polygon = numeral_unique_along 4 s.polygon_text t.polygon_text c.polygon e.polygon one s.polygon t.polygon in
+    let side = numeral_unique_along 4 s.side_text t.side_text c.side e.side two s.side t.side in
+    ap (λ (n : ℕ). record { polygon = n; side = c.side }) polygon ∙ ap (λ (n : ℕ). record { polygon = e.polygon; side = n }) side
+
+-- ---- the words after the first one
+
+only_word_unique : (word word' : List ℕ) (words : List (List ℕ)) → words ≡ word ∷ [] → words ≡ word' ∷ [] → word ≡ word'
+only_word_unique word word' words e f = heads_equal word word' [] [] (sym e ∙ f)
+
+glue_words : (words rest : List (List ℕ)) (word one two : List ℕ) → words ≡ word ∷ rest → words ≡ one ∷ two ∷ [] → (one ≡ word) × (rest ≡ two ∷ [])
+glue_words words rest word one two e f = (heads_equal one word (two ∷ []) rest (sym f ∙ e), sym (tails_equal one word (two ∷ []) rest (sym f ∙ e)))
+
+-- the first word is no side
+pub first_not_corner : (words rest : List (List ℕ)) (word : List ℕ) → words ≡ word ∷ rest → ((c : Corner) → ¬ SpellsCorner word c) → (one two : Corner) → ¬ SpellsGlue words one two
+first_not_corner words rest word e none one two s = none one (subst (λ u. SpellsCorner u one) (glue_words words rest word s.0 s.1 e s.2).0 s.3)
+
+-- the second word is no side
+pub second_not_corner : (words rest : List (List ℕ)) (word last : List ℕ) → words ≡ word ∷ rest → rest ≡ last ∷ [] → ((c : Corner) → ¬ SpellsCorner last c) → (one two : Corner) → ¬ SpellsGlue words one two
+second_not_corner words rest word last e f none one two s =
+    none two (subst (λ u. SpellsCorner u two) (only_word_unique s.1 last rest (glue_words words rest word s.0 s.1 e s.2).1 f) s.4)
+
+-- ---- the first word tells which statement it is
+
+-- the word of a command
+abbrev command_word : Command → List ℕ
+command_word Check = codes "check"
+command_word Stratum = codes "stratum"
+
+-- the first word of a statement
+abbrev statement_word : Statement → List ℕ
+statement_word (field_line d) = codes "field"
+statement_word (polygon_line pairs) = codes "polygon"
+statement_word (glue_line one two) = codes "glue"
+statement_word (command_line command) = command_word command
+statement_word end_line = codes "end"
+
+-- the words after it spell the rest
+abbrev SpellsRest : List (List ℕ) → Statement → Type 0
+SpellsRest rest (field_line d) = SpellsField rest d
+SpellsRest rest (polygon_line pairs) = ArePairs rest pairs
+SpellsRest rest (glue_line one two) = SpellsGlue rest one two
+SpellsRest rest (command_line command) = rest ≡ []
+SpellsRest rest end_line = rest ≡ []
+
+-- the first word of a statement, and what the others spell
+spelled_parts : (words : List (List ℕ)) (s : Statement) → SpellsStatement words s → (rest : List (List ℕ)) × (words ≡ statement_word s ∷ rest) × SpellsRest rest s
+spelled_parts words (field_line d) s = (s.0 ∷ [], s.1, (s.0, refl, s.2))
+spelled_parts words (polygon_line pairs) s = (s.0, s.1, s.2)
+spelled_parts words (glue_line one two) s = (s.0 ∷ s.1 ∷ [], s.2, (s.0, s.1, refl, s.3, s.4))
+spelled_parts words (command_line Check) s = ([], s.4, refl)
+spelled_parts words (command_line Stratum) s = ([], s.4, refl)
+spelled_parts words end_line s = ([], s, refl)
+
+-- the words after a first word that is known
+spelled_rest : (words rest : List (List ℕ)) (word : List ℕ) → words ≡ word ∷ rest → (s : Statement) → SpellsStatement words s → (statement_word s ≡ word) × SpellsRest rest s
+spelled_rest words rest word e s shows =
+    let p = spelled_parts words s shows in
+    let same = sym p.1 ∙ e in
+    (heads_equal (statement_word s) word p.0 rest same, subst (λ ws. SpellsRest ws s) (tails_equal (statement_word s) word p.0 rest same) p.2)
+
+-- no words spell nothing
+pub nil_spells_none : (words : List (List ℕ)) → words ≡ [] → (s : Statement) → ¬ SpellsStatement words s
+nil_spells_none words e s shows = some (statement_word s) (spelled_parts words s shows).0 (sym (spelled_parts words s shows).1 ∙ e)
+  where
+    some : (word : List ℕ) (rest : List (List ℕ)) → word ∷ rest ≢ []
+    some word rest f = cc
+
+-- ---- the first word tells the kind of the statement
+
+-- a number for each kind of statement, and for each command
+abbrev kind : Statement → ℕ
+kind (field_line d) = 0
+kind (polygon_line pairs) = 1
+kind (glue_line one two) = 2
+kind end_line = 3
+kind (command_line Check) = 4
+kind (command_line Stratum) = 5
+
+-- the kind that a first word tells
+abbrev kind_of_word : List ℕ → ℕ
+kind_of_word name =
+    if bytes_eq name (codes "field") then 0
+    else if bytes_eq name (codes "polygon") then 1
+    else if bytes_eq name (codes "glue") then 2
+    else if bytes_eq name (codes "end") then 3
+    else if bytes_eq name (codes "check") then 4
+    else 5
+
+kind_of_statement_word : (s : Statement) → kind_of_word (statement_word s) ≡ kind s
+kind_of_statement_word (field_line d) = refl
+kind_of_statement_word (polygon_line pairs) = refl
+kind_of_statement_word (glue_line one two) = refl
+kind_of_statement_word end_line = refl
+kind_of_statement_word (command_line Check) = refl
+kind_of_statement_word (command_line Stratum) = refl
+
+kind_unique : (s t : Statement) → statement_word s ≡ statement_word t → kind s ≡ kind t
+kind_unique s t e = sym (kind_of_statement_word s) ∙ (ap kind_of_word e ∙ kind_of_statement_word t)
+
+-- ---- lines whose first word is known, and whose other words spell nothing
+
+rest_not_glue : (rest : List (List ℕ)) → ((one two : Corner) → ¬ SpellsGlue rest one two) → (s : Statement) → kind s ≡ 2 → SpellsRest rest s → ⊥
+rest_not_glue rest none (field_line d) k shows = absurd (omega arith)
+rest_not_glue rest none (polygon_line pairs) k shows = absurd (omega arith)
+rest_not_glue rest none (glue_line one two) k shows = none one two shows
+rest_not_glue rest none (command_line Check) k shows = absurd (omega arith)
+rest_not_glue rest none (command_line Stratum) k shows = absurd (omega arith)
+rest_not_glue rest none end_line k shows = absurd (omega arith)
+
+rest_not_field : (rest : List (List ℕ)) → ((d : ℕ) → ¬ SpellsField rest d) → (s : Statement) → kind s ≡ 0 → SpellsRest rest s → ⊥
+rest_not_field rest none (field_line d) k shows = none d shows
+rest_not_field rest none (polygon_line pairs) k shows = absurd (omega arith)
+rest_not_field rest none (glue_line one two) k shows = absurd (omega arith)
+rest_not_field rest none (command_line Check) k shows = absurd (omega arith)
+rest_not_field rest none (command_line Stratum) k shows = absurd (omega arith)
+rest_not_field rest none end_line k shows = absurd (omega arith)
+
+-- words after `glue` that aren't two sides
+pub not_glue_statement : (words rest : List (List ℕ)) (word : List ℕ) → words ≡ word ∷ rest → word ≡ codes "glue" → ((one two : Corner) → ¬ SpellsGlue rest one two) → (s : Statement) → ¬ SpellsStatement words s
+not_glue_statement words rest word e named none s shows =
+    let b = spelled_rest words rest word e s shows in
+    rest_not_glue rest none s (sym (kind_of_statement_word s) ∙ ap kind_of_word (b.0 ∙ named)) b.1
+
+-- words after `field` that aren't a numeral
+pub not_field_statement : (words rest : List (List ℕ)) (word : List ℕ) → words ≡ word ∷ rest → word ≡ codes "field" → ((d : ℕ) → ¬ SpellsField rest d) → (s : Statement) → ¬ SpellsStatement words s
+not_field_statement words rest word e named none s shows =
+    let b = spelled_rest words rest word e s shows in
+    rest_not_field rest none s (sym (kind_of_statement_word s) ∙ ap kind_of_word (b.0 ∙ named)) b.1
+
+-- ---- words spell at most one statement
+
+rest_unique : (rest : List (List ℕ)) (s t : Statement) → kind s ≡ kind t → SpellsRest rest s → SpellsRest rest t → s ≡ t
+rest_unique rest (field_line d) (field_line e) k a b = ap field_line (numeral_unique 4 a.0 d e a.2 (subst (λ u. SpellsNumeral 4 u e) (only_word_unique b.0 a.0 rest b.1 a.1) b.2))
+rest_unique rest (field_line d) (polygon_line others) k a b = absurd (omega arith)
+rest_unique rest (field_line d) (glue_line three four) k a b = absurd (omega arith)
+rest_unique rest (field_line d) (command_line Check) k a b = absurd (omega arith)
+rest_unique rest (field_line d) (command_line Stratum) k a b = absurd (omega arith)
+rest_unique rest (field_line d) end_line k a b = absurd (omega arith)
+rest_unique rest (polygon_line pairs) (field_line e) k a b = absurd (omega arith)
+rest_unique rest (polygon_line pairs) (polygon_line others) k a b = ap polygon_line (pairs_unique rest pairs others a b)
+rest_unique rest (polygon_line pairs) (glue_line three four) k a b = absurd (omega arith)
+rest_unique rest (polygon_line pairs) (command_line Check) k a b = absurd (omega arith)
+rest_unique rest (polygon_line pairs) (command_line Stratum) k a b = absurd (omega arith)
+rest_unique rest (polygon_line pairs) end_line k a b = absurd (omega arith)
+rest_unique rest (glue_line one two) (field_line e) k a b = absurd (omega arith)
+rest_unique rest (glue_line one two) (polygon_line others) k a b = absurd (omega arith)
+rest_unique rest (glue_line one two) (glue_line three four) k a b =
+    let words = glue_words rest (a.1 ∷ []) a.0 b.0 b.1 a.2 b.2 in
+    let second = heads_equal b.1 a.1 [] [] (sym words.1) in
+    let first_same = corner_unique a.0 one three a.3 (subst (λ u. SpellsCorner u three) words.0 b.3) in
+    let second_same = corner_unique a.1 two four a.4 (subst (λ u. SpellsCorner u four) second b.4) in
+    ap (λ (c : Corner). glue_line c two) first_same ∙ ap (λ (c : Corner). glue_line three c) second_same
+rest_unique rest (glue_line one two) (command_line Check) k a b = absurd (omega arith)
+rest_unique rest (glue_line one two) (command_line Stratum) k a b = absurd (omega arith)
+rest_unique rest (glue_line one two) end_line k a b = absurd (omega arith)
+rest_unique rest (command_line Check) (field_line e) k a b = absurd (omega arith)
+rest_unique rest (command_line Check) (polygon_line others) k a b = absurd (omega arith)
+rest_unique rest (command_line Check) (glue_line three four) k a b = absurd (omega arith)
+rest_unique rest (command_line Check) (command_line Check) k a b = refl
+rest_unique rest (command_line Check) (command_line Stratum) k a b = absurd (omega arith)
+rest_unique rest (command_line Check) end_line k a b = absurd (omega arith)
+rest_unique rest (command_line Stratum) (field_line e) k a b = absurd (omega arith)
+rest_unique rest (command_line Stratum) (polygon_line others) k a b = absurd (omega arith)
+rest_unique rest (command_line Stratum) (glue_line three four) k a b = absurd (omega arith)
+rest_unique rest (command_line Stratum) (command_line Check) k a b = absurd (omega arith)
+rest_unique rest (command_line Stratum) (command_line Stratum) k a b = refl
+rest_unique rest (command_line Stratum) end_line k a b = absurd (omega arith)
+rest_unique rest end_line (field_line e) k a b = absurd (omega arith)
+rest_unique rest end_line (polygon_line others) k a b = absurd (omega arith)
+rest_unique rest end_line (glue_line three four) k a b = absurd (omega arith)
+rest_unique rest end_line (command_line Check) k a b = absurd (omega arith)
+rest_unique rest end_line (command_line Stratum) k a b = absurd (omega arith)
+rest_unique rest end_line end_line k a b = refl
+
+-- words spell one statement at most
+pub statement_unique : (words : List (List ℕ)) (s t : Statement) → SpellsStatement words s → SpellsStatement words t → s ≡ t
+statement_unique words s t a b =
+    let p = spelled_parts words s a in
+    let q = spelled_rest words p.0 (statement_word s) p.1 t b in
+    rest_unique p.0 s t (kind_unique s t (sym q.0)) p.2 q.1

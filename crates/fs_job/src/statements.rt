@@ -1,0 +1,153 @@
+// What a line states.
+
+ghost use Rattle.std.specs.Prelude.{◌≡◌, ◌≤◌, ◌↔◌, ℕ, List, [], ◌∷◌, codes, Contains, IsTrue, MatchOption, length};
+ghost use Rattle.fs_job.specs.declared.job.Command.{Command};
+ghost use Rattle.fs_job.specs.Pieces.{words_of};
+ghost use Rattle.fs_job.specs.Statement.{Pair, Statement, command_words, SpellsCommand, SpellsNumeral, SpellsCorner, ArePairs, SpellsStatement};
+ghost use Rattle.fs_job.specs.Grammar.{header};
+ghost use Rattle.fs_job.specs.Line.{Finds, SpellsField, SpellsGlue, pairs_of, statement_of, IsCounted};
+
+use crate::job::Command;
+use crate::pieces::cut_once;
+use crate::words::{next_word, only_word};
+use fs_plane::Corner;
+
+// The most digits of d, and of the two numbers of a corner.
+const MOST_DIGITS: usize = 4;
+
+// The words after the first one of a polygon line, each of which is a pair, and their number.
+#[derive(Clone, Copy)]
+pub struct Pairs<'a> {
+    pub words: &'a [u8],
+    pub count: usize,
+}
+
+// What a line states: its numbers are still texts.
+#[derive(Clone, Copy)]
+pub enum Line<'a> {
+    Field(u16),
+    Polygon(Pairs<'a>),
+    Glue(Corner, Corner),
+    Command(Command),
+    End,
+}
+
+// The number that 1 to 4 decimal digits stand for.
+fn numeral(text: &[u8]) -> Option<u16>
+    ensures { Finds (SpellsNumeral 4 text.now) result }
+{
+    if text.is_empty() || text.len() > MOST_DIGITS {
+        return None;
+    }
+    let mut value = 0u16;
+    for byte in text {
+        if !byte.is_ascii_digit() {
+            return None;
+        }
+        value = value * 10 + u16::from(*byte - b'0');
+    }
+    Some(value)
+}
+
+// A corner or a side: two numerals with a dot between them.
+fn corner(text: &[u8]) -> Option<Corner>
+    ensures { Finds (SpellsCorner text.now) result }
+{
+    let (polygon, side) = cut_once(text, b'.')?;
+    Some(Corner {
+        polygon: numeral(polygon)?,
+        side: numeral(side)?,
+    })
+}
+
+// The d after the first word of a field line.
+fn field_line(words: &[u8]) -> Option<u16>
+    ensures { Finds (SpellsField (words_of words.now)) result }
+{
+    numeral(only_word(words)?)
+}
+
+// The pairs after the first word of a polygon line.
+fn polygon_line(words: &[u8]) -> Option<Pairs<'_>>
+    ensures { MatchOption result
+        ((pairs : List Pair) → ¬ ArePairs (words_of words.now) pairs)
+        (λ pairs. (pairs.words.now ≡ words.now) × ArePairs (words_of words.now) (pairs_of (words_of words.now))
+        × (pairs.count ≡ length (words_of words.now))) }
+{
+    let mut count = 0;
+    let mut rest = words;
+    while let Some((word, more)) = next_word(rest) {
+        cut_once(word, b',')?;
+        count += 1;
+        rest = more;
+    }
+    Some(Pairs { words, count })
+}
+
+// The two sides after the first word of a glue line.
+fn glue_line(words: &[u8]) -> Option<(Corner, Corner)>
+    ensures { MatchOption result
+        ((one : Corner) → (two : Corner) → ¬ SpellsGlue (words_of words.now) one two)
+        (λ sides. SpellsGlue (words_of words.now) sides.0 sides.1) }
+{
+    let (one, rest) = next_word(words)?;
+    let two = only_word(rest)?;
+    Some((corner(one)?, corner(two)?))
+}
+
+// Whether a line is the header.
+pub fn is_header(line: &[u8]) -> bool
+    ensures { IsTrue result ↔ (words_of line.now ≡ header) }
+{
+    match next_word(line) {
+        Some((word, rest)) => {
+            word == b"flatsurf".as_slice()
+                && only_word(rest).is_some_and(|version| version == b"1".as_slice())
+        }
+        None => false,
+    }
+}
+
+// The command that a single word names.
+fn bare_command(word: &[u8]) -> Option<Command>
+    ensures { MatchOption result
+        ((command : Command) → ¬ SpellsCommand (word.now ∷ []) command)
+        (λ command. Contains command_words word.now × SpellsCommand (word.now ∷ []) command) }
+{
+    if word == b"check".as_slice() {
+        Some(Command::Check)
+    } else if word == b"stratum".as_slice() {
+        Some(Command::Stratum)
+    } else {
+        None
+    }
+}
+
+// What a line states that isn't blank, or `None` where it states nothing.
+pub fn read_line(line: &[u8]) -> Option<Line<'_>>
+    ensures { MatchOption result
+        ((s : Statement) → ¬ SpellsStatement (words_of line.now) s)
+        (λ found. SpellsStatement (words_of line.now) (statement_of found) × IsCounted found) }
+{
+    let (word, rest) = next_word(line)?;
+    if word == b"polygon".as_slice() {
+        return Some(Line::Polygon(polygon_line(rest)?));
+    }
+    if word == b"glue".as_slice() {
+        let (one, two) = glue_line(rest)?;
+        return Some(Line::Glue(one, two));
+    }
+    if word == b"field".as_slice() {
+        return Some(Line::Field(field_line(rest)?));
+    }
+    if next_word(rest).is_some() {
+        return None;
+    }
+    if let Some(command) = bare_command(word) {
+        return Some(Line::Command(command));
+    }
+    if word == b"end".as_slice() {
+        return Some(Line::End);
+    }
+    None
+}

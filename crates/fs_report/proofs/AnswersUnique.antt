@@ -1,0 +1,64 @@
+-- A command has one answer about a surface, and no other.
+use Rattle.std.proofs.Common.{◌≡◌, ℕ, ◌-◌, Bool, Result, Ok, Err, List, length, map, refl, sym, ap, ◌∙◌, subst}
+use Rattle.std.specs.Prelude.{codes}
+use Rattle.fs_lists.proofs.Results.{ok_equal, err_equal, ok_not_err}
+use Rattle.fs_fraction.specs.Fraction.{Fraction}
+use Rattle.fs_plane.specs.declared.sites.Site.{Site}
+use Rattle.fs_gluing.specs.Surface.{GluedPolygons, IsSurface}
+use Rattle.fs_stratum.specs.declared.cones.Cone.{Cone}
+use Rattle.fs_stratum.specs.Cones.{IsGenus}
+use Rattle.fs_stratum.proofs.OneList.{one_list, one_genus}
+use Rattle.fs_stratum.proofs.SomeList.{some_list}
+use Rattle.fs_stratum.proofs.SomeGenus.{genus_of_cones}
+use Rattle.fs_job.specs.declared.job.Command.{Command}
+use Rattle.fs_job.specs.declared.job.Command.TheVariants.{Check, Stratum}
+use Rattle.fs_report.specs.Area.{GivesArea}
+use Rattle.fs_report.specs.Orders.{AreOrders}
+use Rattle.fs_report.specs.Text.{Answers, AnswersStratum, whole, overflowed, stratum_text, overflow_line}
+use Rattle.fs_report.proofs.UnscaledArea.{area_unique, area_exists}
+use Rattle.fs_report.proofs.Descending.{descending_unique, descending_exists}
+
+-- ---- the stratum
+
+-- the text of equal parts
+same_text : (cones cones' : List Cone) (orders orders' : List ℕ) (g g' : ℕ) (area area' : Fraction) → cones ≡ cones' → orders ≡ orders' → g ≡ g' → area ≡ area'
+    → stratum_text orders g cones area ≡ stratum_text orders' g' cones' area'
+same_text cones cones' orders orders' g g' area area' c o e a = λ i. stratum_text (o i) (e i) (c i) (a i)
+
+stratum_unique : (s : GluedPolygons) (m n : List ℕ) (p q : Bool) → IsSurface s → AnswersStratum s m p → AnswersStratum s n q → (m ≡ n) × (p ≡ q)
+stratum_unique s m n p q surface (whole cones orders g area are all genus is text kind) (whole cones' orders' g' area' are' all' genus' is' text' kind') =
+    let same = one_list s surface cones cones' are are' in
+    let as_many = ap (λ (cs : List Cone). length cs) same in
+    let same_orders = descending_unique (map (λ cone. cone.k - 1) cones) orders orders' all.descending all'.descending all.all
+    (subst (λ (cs : List Cone). AreOrders cs orders') (sym same) all').all in
+    let same_genus = one_genus s (length cones) g g' genus (subst (λ (v : ℕ). IsGenus s v g') (sym as_many) genus') in
+    let same_area = ok_equal area area' (area_unique s (Ok area) (Ok area') is is') in
+    (text ∙ (same_text cones cones' orders orders' g g' area area' same same_orders same_genus same_area ∙ sym text'), kind ∙ sym kind')
+stratum_unique s m n p q surface (whole cones orders g area are all genus is text kind) (overflowed site is' text' kind') =
+    absurd (ok_not_err area site (area_unique s (Ok area) (Err site) is is'))
+stratum_unique s m n p q surface (overflowed site is text kind) (whole cones orders g area are all genus is' text' kind') =
+    absurd (ok_not_err area site (area_unique s (Ok area) (Err site) is' is))
+stratum_unique s m n p q surface (overflowed site is text kind) (overflowed site' is' text' kind') =
+    (text ∙ (ap (λ (x : Site). overflow_line (codes "stratum") x) (err_equal site site' (area_unique s (Err site) (Err site') is is')) ∙ sym text'), kind ∙ sym kind')
+
+stratum_exists : (s : GluedPolygons) → IsSurface s → ((text : List ℕ) (partial : Bool) → ¬ AnswersStratum s text partial) → ⊥
+stratum_exists s surface none = area_exists s by_area
+  where
+    by_area : (result : Result Fraction Site) → ¬ GivesArea s result
+    by_area (Err site) is = none _ _ (overflowed site is refl refl)
+    by_area (Ok area) is = some_list s surface (λ cones are.
+        let g = genus_of_cones s surface cones are in
+        let orders = descending_exists (map (λ cone. cone.k - 1) cones) in
+        none _ _ (whole cones orders.0 g.0 area are (record { descending = orders.1; all = orders.2 }) g.1.genus is refl refl))
+
+-- ---- each command
+
+-- a command has one answer at most
+pub answer_unique : (s : GluedPolygons) (command : Command) (m n : List ℕ) (p q : Bool) → IsSurface s → Answers s command m p → Answers s command n q → (m ≡ n) × (p ≡ q)
+answer_unique s Check m n p q surface a b = (a.0 ∙ sym b.0, a.1 ∙ sym b.1)
+answer_unique s Stratum m n p q surface a b = stratum_unique s m n p q surface a b
+
+-- a command has an answer
+pub answer_exists : (s : GluedPolygons) (command : Command) → IsSurface s → ((text : List ℕ) (partial : Bool) → ¬ Answers s command text partial) → ⊥
+answer_exists s Check surface none = none _ _ (refl, refl)
+answer_exists s Stratum surface none = stratum_exists s surface none

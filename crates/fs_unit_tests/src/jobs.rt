@@ -1,0 +1,722 @@
+// Jobs read from texts, and the texts of sites.
+
+use fs_fraction::{Frac, read_number};
+use fs_gluing::{Fault, Glue};
+use fs_job::{Command, Form, Job, JobStop, print_site, read_job};
+use fs_plane::{Corner, Site};
+use std::alloc::{AllocError, Global};
+use std::process::Abort;
+use std::test::Fail;
+
+// The job of the unit square.
+const SQUARE: [&str; 7] = [
+    "flatsurf 1",
+    "field 2",
+    "polygon 1,0 0,1 -1,0 0,-1",
+    "glue 0.0 0.2",
+    "glue 0.1 0.3",
+    "check",
+    "end",
+];
+
+// What replaces one of its lines, numbered from 1, and the name of the result. A fault that has
+// a line has this one.
+static CHANGES: [(usize, &str, &str); 124] = [
+    (1, "Flatsurf 1", "BadHeader"),
+    (1, "flatsurf 1 1", "BadHeader"),
+    (1, "flatsurf 3", "BadHeader"),
+    (1, "flatsurf\x7f 1", "NotAscii"),
+    (1, " flatsurf\t1 ", "read"),
+    (1, " flatsurf 1", "read"),
+    (1, "flatsurf\t1", "read"),
+    (1, "flatsurf 1\r", "read"),
+    (1, "flatsurf 1 ", "read"),
+    (2, "field 0", "BadField"),
+    (2, "field 0000", "BadField"),
+    (2, "field 1", "BadField"),
+    (2, "field 1000", "BadField"),
+    (2, "field 12", "BadField"),
+    (2, "field 4", "BadField"),
+    (2, "field 999", "BadField"),
+    (2, "field 9999", "BadField"),
+    (2, "Field 2", "BadLine"),
+    (2, "field", "BadLine"),
+    (2, "field +2", "BadLine"),
+    (2, "field -2", "BadLine"),
+    (2, "field 00002", "BadLine"),
+    (2, "field 1/2", "BadLine"),
+    (2, "field 12345", "BadLine"),
+    (2, "field 2 2", "BadLine"),
+    (2, "field 2r", "BadLine"),
+    (2, " field 2", "read"),
+    (2, "field\t2", "read"),
+    (2, "field 0002", "read"),
+    (2, "field 2\r", "read"),
+    (2, "field 2 ", "read"),
+    (2, "field 997", "read"),
+    (2, "field 998", "read"),
+    (3, "Polygon 1,0 0,1 -1,0 0,-1", "BadLine"),
+    (3, "polygon 1 0,1 -1,0 0,-1", "BadLine"),
+    (3, "polygon 1, 0 0,1 -1,0 0,-1", "BadLine"),
+    (3, "polygon 1,0 0", "BadLine"),
+    (3, "polygon 1,0,0 0,1 -1,0 0,-1", "BadLine"),
+    (3, "polygon 1/2 r,0 0,1 -1,0 0,-1", "BadLine"),
+    (3, "polygon 1;0 0,1 -1,0 0,-1", "BadLine"),
+    (3, "polygon x,0 1", "BadLine"),
+    (3, "polygons 1,0 0,1 -1,0 0,-1", "BadLine"),
+    (3, "table 1,0 0,1", "BadLine"),
+    (3, "polygon , 0,1 -1,0 0,-1", "BadNumber"),
+    (3, "polygon ,1 0,1 -1,0 0,-1", "BadNumber"),
+    (3, "polygon -,0 0,1 -1,0 0,-1", "BadNumber"),
+    (3, "polygon 1, 0,1 -1,0 0,-1", "BadNumber"),
+    (3, "polygon 1,0 x,1 0,1234567890123456789", "BadNumber"),
+    (
+        3,
+        "polygon 1/0,1234567890123456789 0,1 -1,0 0,-1",
+        "BadNumber",
+    ),
+    (3, "polygon 1/00,0 0,1 -1,0 0,-1", "BadNumber"),
+    (
+        3,
+        "polygon 1234567890123456789x,0 0,1 -1,0 0,-1",
+        "BadNumber",
+    ),
+    (3, "polygon 1r+1r,0 0,1 -1,0 0,-1", "BadNumber"),
+    (3, "polygon 0000000000000000001,0 0,1 -1,0 0,-1", "Wide"),
+    (3, "polygon 1,0 0,1234567890123456789 x,1", "Wide"),
+    (3, "polygon 1/0000000000000000000,0 0,1 -1,0 0,-1", "Wide"),
+    (3, "polygon 1234567890123456789,1/0 0,1 -1,0 0,-1", "Wide"),
+    (3, "polygon 1234567890123456789/0,0 0,1 -1,0 0,-1", "Wide"),
+    (3, " polygon 1,0 0,1 -1,0 0,-1", "read"),
+    (3, "polygon", "read"),
+    (3, "polygon\t1,0\t0,1\t-1,0\t0,-1\t", "read"),
+    (3, "polygon\t1,0 0,1 -1,0 0,-1", "read"),
+    (3, "polygon 1+1r,0 0,2-1r -1-1r,0 0,-2+1r", "read"),
+    (3, "polygon 1,0 0,1 -1,0 0,-1\r", "read"),
+    (3, "polygon 1,0 0,1 -1,0 0,-1 ", "read"),
+    (
+        3,
+        "polygon 999999999999999999/999999999999999998+999999999999999997/999999999999999996r,0 0,1 -1,0 0,-1",
+        "read",
+    ),
+    (4, "Glue 0.0 0.2", "BadLine"),
+    (4, "glue .0 0.2", "BadLine"),
+    (4, "glue 0 0.2", "BadLine"),
+    (4, "glue 0. 0.2", "BadLine"),
+    (4, "glue 0.-0 0.2", "BadLine"),
+    (4, "glue 0.0", "BadLine"),
+    (4, "glue 0.0 -0.2", "BadLine"),
+    (4, "glue 0.0 0,2", "BadLine"),
+    (4, "glue 0.0 0.00002", "BadLine"),
+    (4, "glue 0.0 0.2 0.1", "BadLine"),
+    (4, "glue 0.0 0.2.", "BadLine"),
+    (4, "glue 0.0 0.2r", "BadLine"),
+    (4, "glue 0.0 00000.2", "BadLine"),
+    (4, "glue 0.0.0 0.2", "BadLine"),
+    (4, "glue 0.00000 0.2", "BadLine"),
+    (4, "glue 0.a 0.2", "BadLine"),
+    (4, "glue 00000.0 0.2", "BadLine"),
+    (4, "glue a.0 0.2", "BadLine"),
+    (4, "glue\r0.0 0.2", "NotAscii"),
+    (4, "glue 0.0 0.2\r\r", "NotAscii"),
+    (4, "polygon 1,0\x0c0,1", "NotAscii"),
+    (4, " glue 0.0 0.2", "read"),
+    (4, "glue\t0.0 0.2", "read"),
+    (4, "glue 0.0\t0.2 ", "read"),
+    (4, "glue 0.0  0.2", "read"),
+    (4, "glue 0.0 0.2\r", "read"),
+    (4, "glue 0.0 0.2 ", "read"),
+    (4, "glue 0.0 0000.0002", "read"),
+    (4, "glue 0.0000 0.2", "read"),
+    (4, "glue 0.7 9999.9999", "read"),
+    (5, "Glue 0.1 0.3", "BadLine"),
+    (5, " glue 0.1 0.3", "read"),
+    (5, "glue\t0.1 0.3", "read"),
+    (5, "glue 0.1 0.3\r", "read"),
+    (5, "glue 0.1 0.3 ", "read"),
+    (6, "Check", "BadLine"),
+    (6, "check now", "BadLine"),
+    (6, "chek", "BadLine"),
+    (6, "close", "BadLine"),
+    (6, "flow 1,0", "BadLine"),
+    (6, "Stratum", "BadLine"),
+    (6, "stratum 1", "BadLine"),
+    (6, "strata", "BadLine"),
+    (6, "delaunay", "BadLine"),
+    (6, "stratum", "read"),
+    (6, "\tstratum \r", "read"),
+    (6, "won top 1", "BadLine"),
+    (6, "check\x00", "NotAscii"),
+    (6, " check", "read"),
+    (6, "check\t", "read"),
+    (6, "check\r", "read"),
+    (6, "check ", "read"),
+    (7, "End", "BadLine"),
+    (7, "end now", "BadLine"),
+    (7, "end\x7f", "NotAscii"),
+    (7, " end", "read"),
+    (7, "end\t", "read"),
+    (7, "end\r", "read"),
+    (7, "end ", "read"),
+];
+
+// Whole texts, the name of the result of each, and its line.
+static TEXTS: [(&[u8], &str, u32); 49] = [
+    (
+        b"flatsurf 1\nfield 2\npolygon 1,0 0,1 -1,0 0,-1\x80\nglue 0.0 0.2\nglue 0.1 0.3\ncheck\nend\n",
+        "NotAscii",
+        3,
+    ),
+    (
+        b"flatsurf 1\nfield 2\npolygon 1,0 0,x 1 \x80\nglue 0.0 0.2\nglue 0.1 0.3\ncheck\nend\n",
+        "NotAscii",
+        3,
+    ),
+    (
+        b"flatsurf 1\nfield 2\npolygon x,0,1 \x80\nglue 0.0 0.2\nglue 0.1 0.3\ncheck\nend\n",
+        "NotAscii",
+        3,
+    ),
+    (b"", "BadHeader", 0),
+    (
+        b"flatsurf 1\nfield 2\npolygon 1,0 0,1 -1,0 0,-1\nglue 0.0 0.2\nglue 0.1 0.3\ncheck\nend\n\n",
+        "read",
+        0,
+    ),
+    (
+        b"flatsurf 1\nfield 2\npolygon 1,0 0,1 -1,0 0,-1\nglue 0.0 0.2\nglue 0.1 0.3\ncheck\nend\n\n \t\n",
+        "read",
+        0,
+    ),
+    (
+        b"\x01\nflatsurf 1\nfield 2\npolygon 1,0 0,1 -1,0 0,-1\nglue 0.0 0.2\nglue 0.1 0.3\ncheck\nend\n",
+        "NotAscii",
+        1,
+    ),
+    (
+        b"  flatsurf \t 1 \t\n  field \t 2 \t\n  polygon \t 1,0 \t 0,1 \t -1,0 \t 0,-1 \t\n  glue \t 0.0 \t 0.2 \t\n  glue \t 0.1 \t 0.3 \t\n  check \t\n  end \t\n",
+        "read",
+        0,
+    ),
+    (
+        b"flatsurf 1\nfield 2\npolygon 1,0 0,1 -1,0 0,-1\nglue 0.0 0.2\nglue 0.1 0.3\ncheck\nend\r",
+        "NotAscii",
+        7,
+    ),
+    (
+        b"flatsurf 1\r\nfield 2\r\npolygon 1,0 0,1 -1,0 0,-1\r\nglue 0.0 0.2\r\nglue 0.1 0.3\r\ncheck\r\nend\r\n",
+        "read",
+        0,
+    ),
+    (
+        b"flatsurf 1\nfield 2\npolygon 1,0 0,1 -1,0 0,-1\ncheck\nglue 0.0 0.2\nglue 0.1 0.3\nend\n",
+        "BadLine",
+        5,
+    ),
+    (
+        b"flatsurf 1\nfield 2\ncheck\npolygon 1,0 0,1 -1,0 0,-1\nglue 0.0 0.2\nglue 0.1 0.3\ncheck\nend\n",
+        "BadLine",
+        3,
+    ),
+    (
+        b"flatsurf 1\nfield 2\n# a comment\npolygon 1,0 0,1 -1,0 0,-1\nglue 0.0 0.2\nglue 0.1 0.3\ncheck\nend\n",
+        "BadLine",
+        3,
+    ),
+    (b"flatsurf 1\nfield 2\nend\n", "BadLine", 3),
+    (
+        b"flatsurf 1\npolygon 1,0 0,1 -1,0 0,-1\nfield 2\nglue 0.0 0.2\nglue 0.1 0.3\ncheck\nend\n",
+        "BadLine",
+        2,
+    ),
+    (
+        b"flatsurf 1\nfield 2\nfield 2\npolygon 1,0 0,1 -1,0 0,-1\nglue 0.0 0.2\nglue 0.1 0.3\ncheck\nend\n",
+        "BadLine",
+        3,
+    ),
+    (
+        b"flatsurf 1\nfield 12\npolygon x\nglue 0.0 0.2\nglue 0.1 0.3\ncheck\nend\n",
+        "BadField",
+        0,
+    ),
+    (
+        b"flatsurf 1\nfield 2\npolygon 1,0 0,1 -1,0 0,-1\nglue 0.0 0.2\nglue 0.1 0.3\ncheck\nend\n\xff\n",
+        "NotAscii",
+        8,
+    ),
+    (
+        b"flatsurf 1\nfield 2\nglue 0.0 0.2\nglue 0.1 0.3\ncheck\nend\n",
+        "BadLine",
+        5,
+    ),
+    (
+        b"flatsurf 1\nfield 2\nglue 0.0 0.2\nglue 0.1 0.3\npolygon 1,0 0,1 -1,0 0,-1\ncheck\nend\n",
+        "read",
+        0,
+    ),
+    (
+        b"flatsurf 1\nfield 2\npolygon 1,0 0,1 -1,0 0,-1\nglue 0.0 0.2\npolygon 1,0 0,1 -1,0 0,-1\nglue 0.1 1.3\nglue 1.1 0.3\nglue 1.0 1.2\ncheck\nend\n",
+        "read",
+        0,
+    ),
+    (
+        b"\n  \nflatsurf 1\nfield 2\npolygon 1,0 0,1 -1,0 0,-1\nglue 0.0 0.2\nglue 0.1 0.3\ncheck\nend\n",
+        "read",
+        0,
+    ),
+    (
+        b"flatsurf 1\nfield 2\npolygon 2,0 1,1r -1,1r -2,0 -1,-1r 1,-1r\nglue 0.1 0.4\nglue 0.2 0.5\nglue 0.0 0.3\ncheck\nend\n",
+        "read",
+        0,
+    ),
+    (
+        b"\nflatsurf 1\nfield 2\npolygon 1,0 0,1 -1,0 0,-1\nglue 0.0 0.2\nglue 0.1 0.3\ncheck\nend\n",
+        "read",
+        0,
+    ),
+    (
+        b"flatsurf 1\nfield 2\n\npolygon 1,0 0,1 -1,0 0,-1\nglue 0.0 0.2\nglue 0.1 0.3\ncheck\nend\n",
+        "read",
+        0,
+    ),
+    (
+        b"flatsurf 1\nfield 2\npolygon 1,0 0,1 -1,0 0,-1\nglue 0.0 0.2\nglue 0.1 0.3\ncheck\nend\ncheck\n",
+        "BadLine",
+        8,
+    ),
+    (
+        b"flatsurf 1\nfield 2\npolygon 1,0 0,1 -1,0 0,-1\nglue 0.0 0.2\nglue 0.1 0.3\nend\n",
+        "read",
+        0,
+    ),
+    (
+        b"flatsurf 1\nfield 2\npolygon 1,0 0,1 -1,0 0,-1\nglue 0.0 0.2\nglue 0.1 0.3\n",
+        "NoEnd",
+        0,
+    ),
+    (b"\n", "BadHeader", 0),
+    (b" \t\n\n \n", "BadHeader", 0),
+    (b"flatsurf 1\n", "NoEnd", 0),
+    (
+        b"flatsurf 1\nfield 2\npolygon 1,0 0,1 -1,0 0,-1\nglue 0.0 0.2\nglue 0.1 0.3\npolygon 1,0 0,1 -1,0 0,-1\ncheck\nend\n",
+        "read",
+        0,
+    ),
+    (
+        b" \t\n\nflatsurf 1\nfield 2\n\t\npolygon 1,0 0,1 -1,0 0,-1\nglue 0.0 0.2\nglue 0.1 0.3\ncheck\nend\n  \n",
+        "read",
+        0,
+    ),
+    (
+        b"flatsurf 1\nfield 2\npolygon 1,0 0,1 -1,0 0,-1\nglue 0.0 0.2\nglue 0.1 0.3\ncheck\nend",
+        "read",
+        0,
+    ),
+    (
+        b"flatsurf 1\nfield 2\npolygon 1,0 0,1 -1,0 0,-1\nglue 0.0 0.2\nglue 0.1 0.3\ncheck\nend\n",
+        "read",
+        0,
+    ),
+    (
+        b"flatsurf 1\nfield 2\nsurface a\npolygon 1,0 0,1 -1,0 0,-1\nglue 0.0 0.2\nglue 0.1 0.3\ncheck\nend\n",
+        "BadLine",
+        3,
+    ),
+    (
+        b"flatsurf 1\nfield 2\npolygon 1,0 0,1 -1,0 0,-1\nglue 0.0 0.2\nglue 0.1 0.3\ncheck\nend\nend\n",
+        "BadLine",
+        8,
+    ),
+    (
+        b"flatsurf 1\nfield 2\npolygon 1,0\nend\ncheck x\n",
+        "BadLine",
+        5,
+    ),
+    (
+        b"flatsurf 1\nfield 2\npolygon 1,0\ncheck\npolygon x,0\nend\n",
+        "BadLine",
+        5,
+    ),
+    (
+        b"flatsurf 1\nfield 2\npolygon 1,x\ncheck\nend\n\x80\n",
+        "BadNumber",
+        3,
+    ),
+    (b"flatsurf 1\nfield 2\npolygon\nend\n\n\n", "read", 0),
+    (
+        b"flatsurf 1\nfield 2\npolygon 1,0\ncheck\nbad\n",
+        "BadLine",
+        5,
+    ),
+    (b"flatsurf 1\n\n\nfield 12\n\npolygon x,0\n", "BadField", 0),
+    (
+        b"flatsurf 1\n \n\t\nfield 2\n\npolygon 1/0,1\n",
+        "BadNumber",
+        6,
+    ),
+    (b"flatsurf 1\nfield 2\npolygon\nend", "read", 0),
+    (b"flatsurf 1\nfield 2\npolygon\nend ", "read", 0),
+    (b"flatsurf 1\nfield 2\npolygon\nend\n\r", "NotAscii", 5),
+    (b"flatsurf 1\nfield 2\npolygon\nend\n\r\n", "read", 0),
+    (
+        b"\r\n\r\nflatsurf 1\r\nfield 2\r\npolygon\r\nend",
+        "read",
+        0,
+    ),
+];
+
+// The result for each line of the square cut short, by the number of bytes that are left: `.` is
+// none, `h` BadHeader, `l` BadLine and `n` BadNumber of the same line.
+const CUT_SHORT: [&str; 7] = [
+    "hhhhhhhhhh.",
+    ".llllll.",
+    ".llllll..ln..ln..lln..lnn.",
+    ".lllllllllll.",
+    ".lllllllllll.",
+    ".llll.",
+    ".ll.",
+];
+
+// The result for the square where a line is missing, doubled, or exchanged with the next.
+const MISSING: [(&str, u32); 7] = [
+    ("BadHeader", 0),
+    ("BadLine", 2),
+    ("BadLine", 5),
+    ("read", 0),
+    ("read", 0),
+    ("read", 0),
+    ("NoEnd", 0),
+];
+
+const DOUBLED: [(&str, u32); 7] = [
+    ("BadLine", 2),
+    ("BadLine", 3),
+    ("read", 0),
+    ("read", 0),
+    ("read", 0),
+    ("read", 0),
+    ("BadLine", 8),
+];
+
+const EXCHANGED: [(&str, u32); 6] = [
+    ("BadHeader", 0),
+    ("BadLine", 2),
+    ("read", 0),
+    ("read", 0),
+    ("BadLine", 6),
+    ("BadLine", 7),
+];
+
+// The result for a text: the name of the fault and the line that it names, or 0.
+fn told(answer: &Result<Job, JobStop>) -> (&'static str, u32) {
+    match answer {
+        Ok(_) => ("read", 0),
+        Err(JobStop::Fault(fault)) => match *fault {
+            Fault::NotAscii { line } => ("NotAscii", line),
+            Fault::BadHeader => ("BadHeader", 0),
+            Fault::BadLine { line } => ("BadLine", line),
+            Fault::BadNumber { line } => ("BadNumber", line),
+            Fault::BadField => ("BadField", 0),
+            Fault::TooMany { line } => ("TooMany", line),
+            Fault::NoEnd => ("NoEnd", 0),
+            Fault::Wide { line } => ("Wide", line),
+            _ => ("another fault", 0),
+        },
+        Err(JobStop::NoMemory) => ("no memory", 0),
+    }
+}
+
+// A text, and after it the lines of the square from one to before another.
+fn with_lines(mut text: Vec<u8>, from: usize, to: usize) -> Result<Vec<u8>, AllocError> {
+    for (i, line) in SQUARE.iter().enumerate() {
+        if from <= i && i < to {
+            text.extend_from_slice(line.as_bytes())?;
+            text.push(b'\n')?;
+        }
+    }
+    Ok(text)
+}
+
+// The square with this text in place of the lines from one to before another.
+fn changed(alloc: Global, from: usize, to: usize, text: &[u8]) -> Result<Vec<u8>, AllocError> {
+    let mut job = with_lines(Vec::new(alloc), 0, from)?;
+    job.extend_from_slice(text)?;
+    with_lines(job, to, 7)
+}
+
+// The result for a text.
+fn read(alloc: Global, text: &[u8]) -> (&'static str, u32) {
+    if text.len() > 1_048_576 {
+        return ("too long", 0);
+    }
+    told(&read_job(alloc, text))
+}
+
+#[test]
+fn changed_lines(rt: HostRuntime) -> Result<(), Fail> {
+    let alloc = rt.alloc();
+    for (number, change, name) in CHANGES.iter() {
+        let mut prefix = with_lines(Vec::new(alloc), 0, number.saturating_sub(1))?;
+        prefix.extend_from_slice(change.as_bytes())?;
+        prefix.push(b'\n')?;
+        let job = with_lines(prefix, *number, 7)?;
+        let (answer, line) = read(alloc, job.as_slice());
+        assert_eq!(rt; answer, *name, "{change}");
+        assert!(rt; line == 0 || line as usize == *number, "{change}");
+    }
+    Ok(())
+}
+
+#[test]
+fn whole_texts(rt: HostRuntime) -> Result<(), Fail> {
+    for (text, name, line) in TEXTS.iter() {
+        assert_eq!(rt; read(rt.alloc(), text), (*name, *line), "{text:?}");
+    }
+    Ok(())
+}
+
+#[test]
+fn missing_and_blank_lines(rt: HostRuntime) -> Result<(), Fail> {
+    let alloc = rt.alloc();
+    for (i, (name, line)) in MISSING.iter().enumerate() {
+        let missing = changed(alloc, i, i + 1, &[])?;
+        assert_eq!(rt; read(alloc, missing.as_slice()), (*name, *line), "{i}");
+        let blank = changed(alloc, i, i + 1, b"\n")?;
+        let later = if *line == 0 { 0 } else { *line + 1 };
+        assert_eq!(rt; read(alloc, blank.as_slice()), (*name, later), "{i}");
+    }
+    Ok(())
+}
+
+#[test]
+fn doubled_and_exchanged_lines(rt: HostRuntime) -> Result<(), Fail> {
+    let alloc = rt.alloc();
+    for (i, expected) in DOUBLED.iter().enumerate() {
+        let twice = with_lines(with_lines(Vec::new(alloc), 0, i + 1)?, i, 7)?;
+        assert_eq!(rt; read(alloc, twice.as_slice()), *expected, "{i}");
+    }
+    for (i, expected) in EXCHANGED.iter().enumerate() {
+        let prefix = with_lines(Vec::new(alloc), 0, i)?;
+        let both = with_lines(with_lines(prefix, i + 1, i + 2)?, i, i + 1)?;
+        let job = with_lines(both, i + 2, 7)?;
+        assert_eq!(rt; read(alloc, job.as_slice()), *expected, "{i}");
+    }
+    Ok(())
+}
+
+// The result for a line cut short, by the letter of the table, or this one where it has none.
+fn of_letter(letter: u8, number: u32, nothing: &'static str) -> (&'static str, u32) {
+    match letter {
+        b'h' => ("BadHeader", 0),
+        b'l' => ("BadLine", number),
+        b'n' => ("BadNumber", number),
+        _ => (nothing, 0),
+    }
+}
+
+// The square up to so many bytes of one of its lines, numbered from 0.
+fn cut_text(alloc: Global, i: usize, k: usize) -> Result<Vec<u8>, AllocError> {
+    let mut text = with_lines(Vec::new(alloc), 0, i)?;
+    for (j, line) in SQUARE.iter().enumerate() {
+        if j == i && k <= line.len() {
+            text.extend_from_slice(&line.as_bytes()[..k])?;
+        }
+    }
+    Ok(text)
+}
+
+#[test]
+fn lines_cut_short_at_each_byte(rt: HostRuntime) -> Result<(), Fail> {
+    let alloc = rt.alloc();
+    for (i, letters) in CUT_SHORT.iter().enumerate() {
+        let number = i as u32 + 1;
+        for (k, letter) in letters.as_bytes().iter().enumerate() {
+            let mut text = cut_text(alloc, i, k)?;
+            let ended = i == 6 && k == 3;
+            let end = of_letter(*letter, number, if ended { "read" } else { "NoEnd" });
+            assert_eq!(rt; read(alloc, text.as_slice()), end, "{number} {k}");
+            if k > 0 {
+                text.push(b'\n')?;
+                let whole = with_lines(text, i + 1, 7)?;
+                let expected = of_letter(*letter, number, "read");
+                assert_eq!(rt; read(alloc, whole.as_slice()), expected, "{number} {k}");
+            }
+        }
+    }
+    Ok(())
+}
+
+// A header and a field, then two texts, the second of them so many times, and a third.
+fn repeated(
+    alloc: Global,
+    first: &[u8],
+    again: &[u8],
+    times: usize,
+    last: &[u8],
+) -> Result<Vec<u8>, AllocError> {
+    let mut text = with_lines(Vec::new(alloc), 0, 2)?;
+    text.extend_from_slice(first)?;
+    for _ in 0..times {
+        text.extend_from_slice(again)?;
+    }
+    text.extend_from_slice(last)?;
+    Ok(text)
+}
+
+#[test]
+fn limits(rt: HostRuntime) -> Result<(), Fail> {
+    let alloc = rt.alloc();
+    let rows: [(&[u8], &[u8], usize, &[u8], (&str, u32)); 12] = [
+        (b"", b"polygon 1,0\n", 256, b"end", ("read", 0)),
+        (b"", b"polygon 1,0\n", 257, b"end", ("TooMany", 259)),
+        (
+            b"",
+            b"polygon 1,0\n",
+            256,
+            b"polygon x,0\n",
+            ("TooMany", 259),
+        ),
+        (b"", b"polygon 1,0\n", 256, b"polygon 1\n", ("BadLine", 259)),
+        (b"polygon", b" 1,0", 1024, b"\nend", ("read", 0)),
+        (b"polygon", b" 1,0", 1025, b"\nend", ("TooMany", 3)),
+        (b"polygon x,0", b" 1,0", 1024, b"\nend", ("TooMany", 3)),
+        (
+            b"polygon 1,0\npolygon",
+            b" 1,0",
+            1023,
+            b"\npolygon\nend",
+            ("read", 0),
+        ),
+        (
+            b"polygon 1,0\npolygon",
+            b" 1,0",
+            1023,
+            b"\npolygon x,0\n",
+            ("TooMany", 5),
+        ),
+        (b"polygon\n", b"check\n", 256, b"end", ("read", 0)),
+        (b"polygon\n", b"check\n", 257, b"end", ("TooMany", 260)),
+        (
+            b"polygon\n",
+            b"check\n",
+            256,
+            b"check 1\nend",
+            ("BadLine", 260),
+        ),
+    ];
+    for (first, again, times, last, expected) in rows {
+        let text = repeated(alloc, first, again, times, last)?;
+        assert_eq!(rt;
+            read(alloc, text.as_slice()),
+            expected,
+            "{first:?} {again:?} {times}"
+        );
+    }
+    let glues = repeated(alloc, b"polygon\n", b"glue 0.0 0.0\n", 3000, b"end")?;
+    assert_eq!(rt; read(alloc, glues.as_slice()), ("read", 0));
+    let spaces = repeated(alloc, b"polygon", b" ", 1_048_576 - 30, b"\nend")?;
+    assert_eq!(rt; spaces.len(), 1_048_576);
+    assert_eq!(rt; read(alloc, spaces.as_slice()), ("read", 0));
+    Ok(())
+}
+
+fn number(rt: &impl Abort, text: &str) -> Frac {
+    match read_number(text.as_bytes()) {
+        Ok(x) => x,
+        Err(_) => panic!(rt; "{text}"),
+    }
+}
+
+#[test]
+fn what_a_job_says(rt: HostRuntime) -> Result<(), Fail> {
+    let alloc = rt.alloc();
+    let text =
+        b"\nflatsurf 1\r\n\tfield 0005 \nglue 0007.0 1.0032\n\npolygon 1/2,-1+2/4r 00,1r\npolygon\nglue 0.1 0.1\ncheck\ncheck\nend";
+    let Job {
+        field,
+        form,
+        commands,
+    } = read_job(alloc, text).ok().ok_or("no job")?;
+    assert_eq!(rt; field.d(), 5);
+    assert!(rt; commands.as_slice() == [Command::Check, Command::Check].as_slice());
+    let Form::Polygons(shape) = form;
+    let polygons = shape.polygons.as_slice();
+    assert_eq!(rt; polygons.len(), 2);
+    assert_eq!(rt; polygons[1].len(), 0);
+    let sides = polygons[0].as_slice();
+    assert_eq!(rt; sides.len(), 2);
+    for (side, (x, y)) in sides.iter().zip([("1/2", "-1+1/2r"), ("0", "1r")]) {
+        assert_eq!(rt; side.x, number(&rt, x));
+        assert_eq!(rt; side.y, number(&rt, y));
+    }
+    let glues = [
+        Glue {
+            line: 4,
+            one: Corner {
+                polygon: 7,
+                side: 0,
+            },
+            two: Corner {
+                polygon: 1,
+                side: 32,
+            },
+        },
+        Glue {
+            line: 8,
+            one: Corner {
+                polygon: 0,
+                side: 1,
+            },
+            two: Corner {
+                polygon: 0,
+                side: 1,
+            },
+        },
+    ];
+    assert!(rt; shape.glues.as_slice() == glues.as_slice());
+    Ok(())
+}
+
+#[test]
+fn sites_as_they_are_printed(rt: HostRuntime) -> Result<(), Fail> {
+    let rows = [
+        (
+            Site::Scale {
+                polygon: 0,
+                side: 2,
+                place: 1,
+            },
+            "scale 0 2 1",
+        ),
+        (
+            Site::Close {
+                polygon: 255,
+                side: 1023,
+                place: 2,
+            },
+            "close 255 1023 2",
+        ),
+        (
+            Site::Corner {
+                polygon: 10,
+                side: 0,
+                place: 3,
+            },
+            "corner 10 0 3",
+        ),
+        (
+            Site::Area {
+                polygon: 3,
+                corner: 20,
+                place: 4,
+            },
+            "area 3 20 4",
+        ),
+        (Site::AreaScale { place: 2 }, "areascale 2"),
+    ];
+    for (site, text) in rows {
+        let printed = print_site(rt.alloc(), &site).ok().ok_or("no memory")?;
+        assert_eq!(rt; printed.as_str(), text);
+    }
+    Ok(())
+}
