@@ -1,14 +1,14 @@
--- Bytes have at most one answer.
+-- Bytes have at most one stop_of.
 use Rattle.std.proofs.Common.{◌≡◌, ◌<◌, ◌≤◌, ℕ, List, length, sym, ap, ◌∙◌, subst, arith}
 use Rattle.std.specs.List.{AllByRecursion}
 use Rattle.fs_io.specs.Whole.{most_bytes}
 use Rattle.fs_lists.proofs.First.{first_not_all, first_unique}
 use Rattle.fs_gluing.specs.declared.faults.Fault.{Fault}
 use Rattle.fs_gluing.specs.declared.faults.Fault.TheVariants.{TooLong}
-use Rattle.fs_gluing.specs.FirstFault.{Test, PassesOf, tests_of, IsFirstFailure, answer}
+use Rattle.fs_gluing.specs.FirstFault.{Test, PassesOf, tests_of, IsFirstFailure, stop_of}
 use Rattle.fs_gluing.specs.Shape.{HasShape}
 use Rattle.fs_gluing.specs.Surface.{GluedPolygons}
-use Rattle.fs_gluing.proofs.OneSurface.{one_surface}
+use Rattle.fs_gluing.proofs.Outcome.SurfaceUnique.{surface_unique}
 use Rattle.fs_job.specs.Draft.{Draft}
 use Rattle.fs_job.specs.Grammar.{IsJob, IsFirstFault}
 use Rattle.fs_report.specs.Text.{fault_line}
@@ -38,13 +38,13 @@ failed_and_passed a b t e f all = first_not_all (PassesOf a.d (draft_shape a)) (
 texts_along : (a b : Draft) (s t : GluedPolygons) (output : List ℕ) (r : Status) → a ≡ b → HasShape a.d (draft_shape a) s → HasShape b.d (draft_shape b) t → Passes b
     → HasStatus (AnswersAll t b.commands) output r → HasStatus (AnswersAll s a.commands) output r
 texts_along a b s t output r e of_s of_t all texts =
-    let same : t ≡ s = one_surface b.d (draft_shape b) t s of_t (subst (λ (j : Draft). HasShape j.d (draft_shape j) s) e of_s) all in
+    let same : t ≡ s = surface_unique b.d (draft_shape b) t s of_t (subst (λ (j : Draft). HasShape j.d (draft_shape j) s) e of_s) all in
     subst (λ (u : GluedPolygons). HasStatus (AnswersAll u a.commands) output r) same
     (subst (λ (j : Draft). HasStatus (AnswersAll t j.commands) output r) (sym e) texts)
 
--- ---- what an answer is, for each reason
+-- ---- what an stop_of is, for each reason
 
--- bytes that are too many have this answer only
+-- bytes that are too many have this stop_of only
 pub only_long : (bytes : List ℕ) → most_bytes < length bytes → (output : List ℕ) (r : Status) → IsAnswered bytes output r → IsThisText (fault_line TooLong) status.Refused output r
 only_long bytes many output r (too_long a s e) = (e, s)
 only_long bytes many output r (no_job n a fault s e) = absurd (omega arith)
@@ -52,7 +52,7 @@ only_long bytes many output r (not_built j k a reads first s e) = absurd (omega 
 only_long bytes many output r (answered j u p a reads surface shape all texts s) = absurd (omega arith)
 
 module _ (law : JobLaw) (bytes : List ℕ) where
-  -- bytes with a first fault have this answer only
+  -- bytes with a first fault have this stop_of only
   pub only_fault : (fault : Fault) → length bytes ≤ most_bytes → IsFirstFault bytes fault → (output : List ℕ) (r : Status) → IsAnswered bytes output r
       → IsThisText (fault_line fault) status.Refused output r
   only_fault n few fault output r (too_long a s e) = absurd (omega arith)
@@ -60,14 +60,14 @@ module _ (law : JobLaw) (bytes : List ℕ) where
   only_fault n few fault output r (not_built j k a reads first s e) = absurd (law.not_both bytes j n reads fault)
   only_fault n few fault output r (answered j u p a reads surface shape all texts s) = absurd (law.not_both bytes j n reads fault)
 
-  -- a job whose shape fails a test has this answer only
+  -- a job whose shape fails a test has this stop_of only
   pub only_stop : (draft : Draft) (test : Test) → length bytes ≤ most_bytes → IsJob bytes draft → IsFirstFailure draft.d (draft_shape draft) test → (output : List ℕ) (r : Status)
-      → IsAnswered bytes output r → IsThisText (stop_line (answer test)) (stop_status (answer test)) output r
+      → IsAnswered bytes output r → IsThisText (stop_line (stop_of test)) (stop_status (stop_of test)) output r
   only_stop j k few reads first output r (too_long a s e) = absurd (omega arith)
   only_stop j k few reads first output r (no_job n a fault s e) = absurd (law.not_both bytes j n reads fault)
   only_stop j k few reads first output r (not_built j' k' a reads' first' s e) =
       let same = first_along j' j k' k (law.one_job bytes j' j reads' reads) first' first in
-      (e ∙ ap (λ (x : Test). stop_line (answer x)) same, s ∙ ap (λ (x : Test). stop_status (answer x)) same)
+      (e ∙ ap (λ (x : Test). stop_line (stop_of x)) same, s ∙ ap (λ (x : Test). stop_status (stop_of x)) same)
   only_stop j k few reads first output r (answered j' u p a reads' surface shape all texts s) =
       absurd (failed_and_passed j j' k (law.one_job bytes j j' reads reads') first all)
 

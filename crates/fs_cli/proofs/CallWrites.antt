@@ -8,7 +8,7 @@ use Rattle.fs_gluing.specs.declared.faults.Fault.{Fault}
 use Rattle.fs_gluing.specs.declared.faults.Fault.TheVariants.{TooLong}
 use Rattle.fs_gluing.specs.declared.faults.BuildStop.{BuildStop}
 use Rattle.fs_gluing.specs.declared.faults.BuildStop.TheVariants as stops
-use Rattle.fs_gluing.specs.FirstFault.{Test, Judges, PassesOf, tests_of, IsFirstFailure, answer}
+use Rattle.fs_gluing.specs.FirstFault.{Test, PassesOf, tests_of, IsFirstFailure, IsBuildResult, stop_of}
 use Rattle.fs_gluing.specs.Shape.{HasShape}
 use Rattle.fs_gluing.specs.Surface.{GluedPolygons, IsSurface}
 use Rattle.fs_job.specs.declared.job.Command.{Command}
@@ -24,7 +24,7 @@ use Rattle.fs_cli.specs.Answer.{IsAnswered, no_job, not_built, answered, BeginsE
 use Rattle.fs_cli.specs.Writing.{Writes, IsThisText, HasStatus}
 use Rattle.fs_cli.proofs.AnsweredUnique.{JobLaw, only_long, only_fault, only_stop, only_texts}
 
--- each answer begins with the empty text
+-- each stop_of begins with the empty text
 pub nothing_begins : (old held : Option (List ℕ)) → IfSome old (λ bytes. (prefix : List ℕ) × BeginsEach (IsAnswered bytes) prefix × Appends held held prefix)
 nothing_begins None held = tt
 nothing_begins (Some bytes) held = ([], λ output result answered. (output, refl), Appends-nil held)
@@ -101,14 +101,14 @@ module _ (result : Status) (held held' : Option (List ℕ)) (faults faults' : �
         ]
 
     -- a job whose shape isn't built
-    pub writes_stop : (draft : Draft) (e stop : BuildStop) → e ≡ stop → IsJob bytes draft → Judges draft.d (draft_shape draft) (Err e) → stop ≢ stops.NoMemory
+    pub writes_stop : (draft : Draft) (e stop : BuildStop) → e ≡ stop → IsJob bytes draft → IsBuildResult draft.d (draft_shape draft) (Err e) → stop ≢ stops.NoMemory
         → Writes (IsThisText (stop_line stop) (stop_status stop)) result held held' faults faults' → Writes (IsAnswered bytes) result held held' faults faults'
     writes_stop draft e stop is reads judged some w = elim judged [
       | inl none ↦ absurd (some (sym is ∙ none))
       | inr failed ↦ stopped failed.0 failed.1 (sym is ∙ failed.2)
     ]
       where
-        stopped : (test : Test) → IsFirstFailure draft.d (draft_shape draft) test → stop ≡ answer test → Writes (IsAnswered bytes) result held held' faults faults'
+        stopped : (test : Test) → IsFirstFailure draft.d (draft_shape draft) test → stop ≡ stop_of test → Writes (IsAnswered bytes) result held held' faults faults'
         stopped test first same =
             writes_just (IsAnswered bytes) (stop_line stop) (stop_status stop) (not_built draft test few reads first (ap stop_status same) (ap stop_line same))
             (λ output r means.

@@ -4,7 +4,7 @@ use Rattle.std.specs.List.{AllByRecursion}
 use Rattle.fs_gluing.specs.FirstFault.{PassesOf, tests_of}
 use Rattle.fs_gluing.specs.Shape.{HasShape}
 use Rattle.fs_gluing.specs.Surface.{GluedPolygons, IsSurface}
-use Rattle.fs_gluing.proofs.SomeSurface.{some_surface}
+use Rattle.fs_gluing.proofs.Outcome.SurfaceExists.{surface_exists}
 use Rattle.fs_job.specs.Draft.{Draft}
 use Rattle.fs_job.specs.Grammar.{IsJob}
 use Rattle.fs_lists.proofs.Equal.{length-positive}
@@ -16,5 +16,5 @@ pub surface_of_job : (bytes : List ℕ) (draft : Draft) → IsJob bytes draft �
     → (s : GluedPolygons) × IsSurface s × HasShape draft.d (draft_shape draft) s
 surface_of_job bytes draft reads passed =
     let sound = job_sound bytes draft reads in
-    some_surface draft.d (draft_shape draft) passed sound.0.radicand
+    surface_exists draft.d (draft_shape draft) passed sound.0.radicand
     (record { some_polygon = length-positive draft.polygons sound.1; polygons = sound.0.polygons; sides = sound.0.sides }) sound.0.points

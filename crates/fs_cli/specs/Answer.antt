@@ -1,4 +1,4 @@
--- The whole answer to the bytes of a job: what is written, and the status.
+-- The whole stop_of to the bytes of a job: what is written, and the status.
 use Rattle.std.specs.Prelude.{◌≡◌, ℕ, ◌<◌, ◌≤◌, Bool, false, ◌||◌, if◌then◌else◌, List, [], ◌∷◌, ◌++◌, length}
 use Rattle.std.specs.List.{AllByRecursion}
 use Rattle.fs_io.specs.Whole.{most_bytes}
@@ -9,7 +9,7 @@ use Rattle.fs_gluing.specs.declared.faults.BuildStop.TheVariants as stops
 use Rattle.fs_gluing.specs.declared.shapes.Shape.{Shape}
 use Rattle.fs_gluing.specs.Shape.{HasShape}
 use Rattle.fs_gluing.specs.Surface.{GluedPolygons, IsSurface}
-use Rattle.fs_gluing.specs.FirstFault.{Test, PassesOf, tests_of, IsFirstFailure, answer}
+use Rattle.fs_gluing.specs.FirstFault.{Test, PassesOf, tests_of, IsFirstFailure, stop_of}
 use Rattle.fs_job.specs.declared.job.Command.{Command}
 use Rattle.fs_job.specs.Draft.{Draft}
 use Rattle.fs_job.specs.Grammar.{IsJob, IsFirstFault}
@@ -33,11 +33,11 @@ stop_status stops.NoMemory = status.NoMemory
 abbrev pub draft_shape : Draft → Shape
 draft_shape draft = record { polygons = draft.polygons; glues = draft.glues }
 
--- the status of a text, by whether it is in place of a whole answer
+-- the status of a text, by whether it is in place of a whole stop_of
 abbrev pub status_of : Bool → Status
 status_of partial = if partial then status.Partial else status.Done
 
--- the one answer and the other after it, partial where one of them is
+-- the one stop_of and the other after it, partial where one of them is
 pub record AreJoined (One Other : List ℕ → Bool → Type 0) (output : List ℕ) (partial : Bool) : Type 0 where
   pub prefix : List ℕ
   pub rest : List ℕ
@@ -61,7 +61,7 @@ pub data IsAnswered (bytes output : List ℕ) (result : Status) : Type 0 where
   no_job : (fault : Fault) → length bytes ≤ most_bytes → IsFirstFault bytes fault → result ≡ status.Refused → output ≡ fault_line fault → IsAnswered bytes output result
   -- the shape fails a test of building
   not_built : (draft : Draft) → (test : Test) → length bytes ≤ most_bytes → IsJob bytes draft → IsFirstFailure draft.d (draft_shape draft) test
-      → result ≡ stop_status (answer test) → output ≡ stop_line (answer test) → IsAnswered bytes output result
+      → result ≡ stop_status (stop_of test) → output ≡ stop_line (stop_of test) → IsAnswered bytes output result
   -- the surface of the shape is built, and the commands are answered in order
   answered : (draft : Draft) → (s : GluedPolygons) → (partial : Bool) → length bytes ≤ most_bytes → IsJob bytes draft
       → IsSurface s → HasShape draft.d (draft_shape draft) s → AllByRecursion (PassesOf draft.d (draft_shape draft)) (tests_of (draft_shape draft))
@@ -77,7 +77,7 @@ exit_code status.ReadFault = 4
 exit_code status.WriteFault = 5
 exit_code status.NoMemory = 6
 
--- the whole answer was given
+-- the whole stop_of was given
 abbrev pub IsWhole : Status → Type 0
 IsWhole status.Done = Unit {0}
 IsWhole status.Refused = Unit {0}
@@ -87,7 +87,7 @@ IsWhole status.ReadFault = ⊥
 IsWhole status.WriteFault = ⊥
 IsWhole status.NoMemory = ⊥
 
--- the answer broke off
+-- the stop_of broke off
 abbrev pub IsBroken : Status → Type 0
 IsBroken status.WriteFault = Unit {0}
 IsBroken status.NoMemory = Unit {0}

@@ -10,6 +10,7 @@ use Rattle.fs_job.specs.declared.job.Command.{Command}
 use Rattle.fs_job.specs.declared.job.JobStop.{JobStop}
 use Rattle.fs_job.specs.declared.job.JobStop.TheVariants as stops
 use Rattle.fs_job.specs.Statement.{Statement, field_line, polygon_line, glue_line, command_line, end_line, number_texts}
+use Rattle.fs_gluing.specs.Limits.{most_polygons, most_sides}
 use Rattle.fs_job.specs.Draft.{Draft, headed, drafted, ended, to_progress, IsAllowed, most_commands, HasRoom, HasBadNumber, number_fault, ArePoints, StatementLeads, bad_number, accepted}
 use Rattle.fs_job.specs.Stage.{ReturnsOutcome}
 use Rattle.fs_job.specs.Line.{pairs_of}
@@ -40,7 +41,7 @@ adds_end n draft some = accepted (ended draft) some tt tt refl refl
 -- ---- polygons
 
 -- there is room for a polygon, by the number of its words
-pub has_room : (draft : Draft) (words : List (List ℕ)) (sides count : ℕ) → sides ≡ sum_by length draft.polygons → count ≡ length words → length draft.polygons < 256 → sides + count ≤ 1024 → HasRoom draft (polygon_line (pairs_of words))
+pub has_room : (draft : Draft) (words : List (List ℕ)) (sides count : ℕ) → sides ≡ sum_by length draft.polygons → count ≡ length words → length draft.polygons < most_polygons → sides + count ≤ most_sides → HasRoom draft (polygon_line (pairs_of words))
 has_room draft words sides count e f few room = (few, omega (arith, length-pairs_of words))
 
 -- polygons before the commands are added, while there is room

@@ -9,7 +9,8 @@ use Rattle.fs_fraction.proofs.Lowest.{reduced-positive}
 use Rattle.fs_fraction.specs.Fraction.{Fraction}
 use Rattle.fs_fraction.specs.Number.{Reads, number, Written, Rational, Root, Both, IsDefined, over_value, under_value, under_runs, value, wide_number, zero_denominator, no_number}
 use Rattle.fs_gluing.specs.declared.shapes.Point.{Point}
-use Rattle.fs_gluing.proofs.SomeSurface.{HasDenominators}
+use Rattle.fs_gluing.specs.Limits.{most_polygons, most_sides}
+use Rattle.fs_gluing.proofs.Outcome.SurfaceExists.{HasDenominators}
 use Rattle.fs_job.specs.Draft.{Draft, Progress, nothing, headed, drafted, ended, draft_of, IsAllowed, HasRoom, HasRadicand, ArePoints, Adds, to_progress}
 use Rattle.fs_job.specs.Grammar.{Leads, LinesLead, IsJob}
 use Rattle.fs_job.specs.Pieces.{lines_of}
@@ -54,8 +55,8 @@ points_positive (pair ∷ pairs) (point ∷ points) a = ((reads_positive pair.x 
 -- d is the d of a field, the limits are kept, and all denominators are above 0
 pub record IsSound (draft : Draft) : Type 0 where
   pub radicand : IsRadicand draft.d
-  pub polygons : length draft.polygons ≤ 256
-  pub sides : sum_by length draft.polygons ≤ 1024
+  pub polygons : length draft.polygons ≤ most_polygons
+  pub sides : sum_by length draft.polygons ≤ most_sides
   pub points : AllByRecursion (AllByRecursion HasDenominators) draft.polygons
 
 -- the draft so far is sound, and one that ended has a polygon

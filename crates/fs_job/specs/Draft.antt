@@ -7,6 +7,7 @@ use Rattle.fs_fraction.specs.Fraction.{Fraction}
 use Rattle.fs_fraction.specs.Number.{Reads}
 use Rattle.fs_fraction.specs.declared.number.NumberFault.{NumberFault}
 use Rattle.fs_fraction.specs.declared.number.NumberFault.TheVariants as number_faults
+use Rattle.fs_gluing.specs.Limits.{most_polygons, most_sides}
 use Rattle.fs_gluing.specs.declared.faults.Fault.{Fault}
 use Rattle.fs_gluing.specs.declared.faults.Fault.TheVariants as faults
 use Rattle.fs_gluing.specs.declared.shapes.Glue.{Glue}
@@ -54,7 +55,7 @@ most_commands = 256
 
 -- the limits leave room for it
 abbrev pub HasRoom : Draft → Statement → Type 0
-HasRoom draft (polygon_line pairs) = (length draft.polygons < 256) × (sum_by length draft.polygons + length pairs ≤ 1024)
+HasRoom draft (polygon_line pairs) = (length draft.polygons < most_polygons) × (sum_by length draft.polygons + length pairs ≤ most_sides)
 HasRoom draft (command_line command) = length draft.commands < most_commands
 HasRoom draft (field_line d) = Unit {0}
 HasRoom draft (glue_line one two) = Unit {0}

@@ -1,6 +1,7 @@
 // The job that is made line by line.
 
 ghost use Rattle.std.specs.Prelude.{◌≡◌, ◌≤◌, length, sum_by};
+ghost use Rattle.fs_gluing.specs.Limits.{most_polygons, most_sides};
 
 use crate::job::{Command, Form, Job};
 use fs_gluing::{Sequence, Shape};
@@ -15,8 +16,8 @@ pub struct DraftJob {
     pub commands: Sequence<Command>,
     pub sides: usize,
     ghost counted: { sides ≡ sum_by length shape.polygons },
-    ghost few_sides: { sides ≤ 1024 },
-    ghost few_polygons: { length shape.polygons ≤ 256 },
+    ghost few_sides: { sides ≤ most_sides },
+    ghost few_polygons: { length shape.polygons ≤ most_polygons },
 }
 
 impl DraftJob {

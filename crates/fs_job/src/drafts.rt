@@ -11,14 +11,10 @@ use crate::draft_job::DraftJob;
 use crate::job::{Command, JobStop};
 use crate::points::read_points;
 use crate::statements::{Line, Pairs};
-use fs_gluing::{Fault, Glue};
+use fs_gluing::{Fault, Glue, MOST_POLYGONS, MOST_SIDES};
 use fs_plane::Corner;
 use fs_quadratic::Field;
 use std::alloc::Global;
-
-const MOST_POLYGONS: usize = 256;
-
-const MOST_SIDES: usize = 1024;
 
 const MOST_COMMANDS: usize = 256;
 

@@ -1,5 +1,6 @@
 // `read_job`: the job that bytes are, or their first fault.
 
+ghost use Rattle.fs_io.specs.Whole.{most_bytes};
 ghost use Rattle.std.specs.Prelude.{◌≡◌, ◌≢◌, ◌⊎◌, ◌≤◌, [], length, IfOk, IfErr};
 ghost use Rattle.fs_gluing.specs.declared.faults.Fault.{Fault};
 ghost use Rattle.fs_gluing.specs.Shape.{IsWithinLimits};
@@ -60,7 +61,7 @@ fn step(alloc: Global, stage: Stage, number: u32, line: &[u8]) -> Result<Stage, 
 /// number that isn't read. `BadField`, a d that isn't squarefree or not in 2 to 999. `NoEnd` where
 /// no line has a fault and `end` doesn't come. `NoMemory` may come at any time.
 pub fn read_job(alloc: Global, bytes: &[u8]) -> Result<Job, JobStop>
-    requires { length bytes.now ≤ 1048576 }
+    requires { length bytes.now ≤ most_bytes }
     ensures job { IfOk result (λ job. IsJob bytes.now (job_draft job)) }
     ensures limits { IfOk result (λ job. IsWithinLimits (form_shape job.form)) }
     ensures fault { IfErr result (λ e. (e ≡ JobStop.NoMemory)

@@ -6,10 +6,10 @@ use Rattle.fs_fraction.specs.Fraction.{Fraction}
 use Rattle.fs_plane.specs.declared.sites.Site.{Site}
 use Rattle.fs_gluing.specs.Surface.{GluedPolygons, IsSurface}
 use Rattle.fs_stratum.specs.declared.cones.Cone.{Cone}
-use Rattle.fs_stratum.specs.Cones.{IsGenus}
-use Rattle.fs_stratum.proofs.OneList.{one_list, one_genus}
-use Rattle.fs_stratum.proofs.SomeList.{some_list}
-use Rattle.fs_stratum.proofs.SomeGenus.{genus_of_cones}
+use Rattle.fs_stratum.specs.VertexList.{IsGenus}
+use Rattle.fs_stratum.proofs.VertexListUnique.{vertex_list_unique, genus_unique}
+use Rattle.fs_stratum.proofs.VertexListExists.{vertex_list_exists}
+use Rattle.fs_stratum.proofs.GenusExists.{genus_exists}
 use Rattle.fs_job.specs.declared.job.Command.{Command}
 use Rattle.fs_job.specs.declared.job.Command.TheVariants.{Check, Stratum}
 use Rattle.fs_report.specs.Area.{GivesArea}
@@ -27,11 +27,11 @@ same_text cones cones' orders orders' g g' area area' c o e a = λ i. stratum_te
 
 stratum_unique : (s : GluedPolygons) (m n : List ℕ) (p q : Bool) → IsSurface s → AnswersStratum s m p → AnswersStratum s n q → (m ≡ n) × (p ≡ q)
 stratum_unique s m n p q surface (whole cones orders g area are all genus is text kind) (whole cones' orders' g' area' are' all' genus' is' text' kind') =
-    let same = one_list s surface cones cones' are are' in
+    let same = vertex_list_unique s surface cones cones' are are' in
     let as_many = ap (λ (cs : List Cone). length cs) same in
     let same_orders = descending_unique (map (λ cone. cone.k - 1) cones) orders orders' all.descending all'.descending all.all
     (subst (λ (cs : List Cone). AreOrders cs orders') (sym same) all').all in
-    let same_genus = one_genus s (length cones) g g' genus (subst (λ (v : ℕ). IsGenus s v g') (sym as_many) genus') in
+    let same_genus = genus_unique s (length cones) g g' genus (subst (λ (v : ℕ). IsGenus s v g') (sym as_many) genus') in
     let same_area = ok_equal area area' (area_unique s (Ok area) (Ok area') is is') in
     (text ∙ (same_text cones cones' orders orders' g g' area area' same same_orders same_genus same_area ∙ sym text'), kind ∙ sym kind')
 stratum_unique s m n p q surface (whole cones orders g area are all genus is text kind) (overflowed site is' text' kind') =
@@ -46,8 +46,8 @@ stratum_exists s surface none = area_exists s by_area
   where
     by_area : (result : Result Fraction Site) → ¬ GivesArea s result
     by_area (Err site) is = none _ _ (overflowed site is refl refl)
-    by_area (Ok area) is = some_list s surface (λ cones are.
-        let g = genus_of_cones s surface cones are in
+    by_area (Ok area) is = vertex_list_exists s surface (λ cones are.
+        let g = genus_exists s surface cones are in
         let orders = descending_exists (map (λ cone. cone.k - 1) cones) in
         none _ _ (whole cones orders.0 g.0 area are (record { descending = orders.1; all = orders.2 }) g.1.genus is refl refl))
 

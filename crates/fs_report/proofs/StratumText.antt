@@ -5,17 +5,17 @@ use Rattle.fs_fraction.specs.Fraction.{Fraction}
 use Rattle.fs_plane.specs.declared.sites.Site.{Site}
 use Rattle.fs_gluing.specs.Surface.{GluedPolygons}
 use Rattle.fs_stratum.specs.declared.cones.Cone.{Cone}
-use Rattle.fs_stratum.specs.Cones.{AreCones, IsGenus, HasGenus}
+use Rattle.fs_stratum.specs.VertexList.{AreVertices, IsGenus, HasGenus}
 use Rattle.fs_report.specs.Area.{GivesArea}
 use Rattle.fs_report.specs.Orders.{AreOrders}
 use Rattle.fs_report.specs.Text.{AnswersStratum, whole, overflowed, stratum_line, stratum_text, vertex_lines, overflow_line}
 
 -- vertices, orders and genus, and the text that names them
 abbrev AreSpelled : GluedPolygons → Fraction → List ℕ → Type 0
-AreSpelled s area text = (cones : List Cone) × (orders : List ℕ) × (g : ℕ) × AreCones s cones × AreOrders cones orders × IsGenus s (length cones) g × (text ≡ stratum_text orders g cones area)
+AreSpelled s area text = (cones : List Cone) × (orders : List ℕ) × (g : ℕ) × AreVertices s cones × AreOrders cones orders × IsGenus s (length cones) g × (text ≡ stratum_text orders g cones area)
 
 -- the line and the lines of vertices are the whole text
-pub all_spelled : (s : GluedPolygons) (area : Fraction) (cones : List Cone) (orders orders' : List ℕ) (g : ℕ) (line text : List ℕ) → AreCones s cones → HasGenus s cones g
+pub all_spelled : (s : GluedPolygons) (area : Fraction) (cones : List Cone) (orders orders' : List ℕ) (g : ℕ) (line text : List ℕ) → AreVertices s cones → HasGenus s cones g
     → AreOrders cones orders → orders' ≡ orders → line ≡ stratum_line orders' g (length cones) area → text ≡ line ++ vertex_lines cones → AreSpelled s area text
 all_spelled s area cones orders orders' g line text are genus of_cones same_orders first lines = (
   cones,

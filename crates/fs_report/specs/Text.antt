@@ -9,7 +9,7 @@ use Rattle.fs_gluing.specs.declared.faults.Fault.{Fault}
 use Rattle.fs_gluing.specs.declared.faults.Fault.TheVariants.{NotAscii, BadHeader, BadLine, BadNumber, BadField, TooMany, NoEnd, Wide, FewSides, NotClosed, NotConvex, TurnsTwice, NoSuchSide, GluedTwice, NotOpposite, Unglued, Apart, TooLong}
 use Rattle.fs_gluing.specs.Surface.{GluedPolygons}
 use Rattle.fs_stratum.specs.declared.cones.Cone.{Cone}
-use Rattle.fs_stratum.specs.Cones.{AreCones, IsGenus}
+use Rattle.fs_stratum.specs.VertexList.{AreVertices, IsGenus}
 use Rattle.fs_job.specs.declared.job.Command.{Command}
 use Rattle.fs_job.specs.declared.job.Command.TheVariants.{Check, Stratum}
 use Rattle.fs_job.specs.SiteText.{site_text}
@@ -93,7 +93,7 @@ stratum_text orders genus cones area = stratum_line orders genus (length cones) 
 pub data AnswersStratum (s : GluedPolygons) (text : List ℕ) (partial : Bool) : Type 0 where
   -- its vertices with their cone numbers, their orders, its genus and its area
   whole : (cones : List Cone) → (orders : List ℕ) → (genus : ℕ) → (area : Fraction)
-      → AreCones s cones → AreOrders cones orders → IsGenus s (length cones) genus → GivesArea s (Ok area)
+      → AreVertices s cones → AreOrders cones orders → IsGenus s (length cones) genus → GivesArea s (Ok area)
       → text ≡ stratum_text orders genus cones area → partial ≡ false → AnswersStratum s text partial
   -- the area overflows there
   overflowed : (site : Site) → GivesArea s (Err site) → text ≡ overflow_line (codes "stratum") site → partial ≡ true → AnswersStratum s text partial

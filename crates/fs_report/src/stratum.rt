@@ -4,7 +4,7 @@ ghost use Rattle.std.specs.Prelude.{◌≡◌, ◌≤◌, ◌++◌, ℕ, List, I
 ghost use Rattle.std.specs.Fmt.{decimal};
 ghost use Rattle.std.specs.List.{AllByRecursion};
 ghost use Rattle.fs_stratum.specs.declared.cones.Cone.{Cone};
-ghost use Rattle.fs_stratum.specs.Cones.{AreCones, IsGenus, HasGenus};
+ghost use Rattle.fs_stratum.specs.VertexList.{AreVertices, IsGenus, HasGenus};
 ghost use Rattle.fs_gluing.specs.Surface.{GluedPolygons, IsSurface};
 ghost use Rattle.fs_report.specs.Orders.{AreOrders};
 ghost use Rattle.fs_report.specs.Text.{AnswersStratum, with_commas, stratum_line, stratum_text, vertex_line, vertex_lines};
@@ -36,7 +36,7 @@ pub fn answer_stratum(alloc: Global, surface: &Surface) -> Result<Answer, NoMemo
 // The lines where the area is known.
 fn whole_text(alloc: Global, surface: &Surface, area: Frac) -> Result<String, NoMemory>
     ensures { IfOk result (λ text. (cones : List Cone) × (orders : List ℕ) × (g : ℕ)
-        × AreCones surface.now cones × AreOrders cones orders × IsGenus surface.now (length cones) g
+        × AreVertices surface.now cones × AreOrders cones orders × IsGenus surface.now (length cones) g
         × (string_bytes text ≡ stratum_text orders g cones area)) }
 {
     let cones = classes(alloc, surface)?;

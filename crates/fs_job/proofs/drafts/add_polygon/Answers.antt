@@ -1,5 +1,6 @@
 use Rattle.std.proofs.Common.{◌<◌, ◌+◌, ◌≤◌, [], length, sym, ap, ◌∙◌, arith, ◌∷◌, length-append}
 use Rattle.std.proofs.lemmas.Result.{err_from_is_err_and}
+use Rattle.fs_gluing.specs.Limits.{most_polygons, most_sides}
 use Rattle.fs_job.specs.Pieces.{words_of}
 use Rattle.fs_job.specs.Statement.{polygon_line}
 use Rattle.fs_job.specs.Line.{pairs_of}
@@ -11,8 +12,8 @@ use Rattle.fs_job.proofs.drafts.add_polygon.Goals as goal
 pub returns-in_err-polygon : goal.returns-in_err-polygon
 returns-in_err-polygon c =
     let p = err_from_is_err_and c.from_residual.result c.from_residual.ensures.1 in
-    let few : length c.args.draft.shape.polygons < 256 = let len = c.len.ensures in omega arith in
-    let fit : c.args.draft.sides + c.args.pairs.count ≤ 1024 = let few = c.args.draft.few_sides in omega arith in
+    let few : length c.args.draft.shape.polygons < most_polygons = let len = c.len.ensures in omega arith in
+    let fit : c.args.draft.sides + c.args.pairs.count ≤ most_sides = let few = c.args.draft.few_sides in omega arith in
     rw (p.1, p.2) (leads_to_bad_number c.args.number (kept_draft c.args.draft) (polygon_line (pairs_of (words_of c.args.pairs.words.now))) c.in_err-polygon.field-0.0
     (nil_by_length c.args.draft.commands (sym c.is_empty.ensures ∙ c.if-not-is_empty.false))
     (has_room (kept_draft c.args.draft) (words_of c.args.pairs.words.now) c.args.draft.sides c.args.pairs.count c.args.draft.counted c.requires.count few fit)
@@ -20,7 +21,7 @@ returns-in_err-polygon c =
 
 pub invariant_of-draft : goal.invariant_of-draft
 invariant_of-draft c =
-    let fit : c.args.draft.sides + c.args.pairs.count ≤ 1024 = let few = c.args.draft.few_sides in omega arith in
+    let fit : c.args.draft.sides + c.args.pairs.count ≤ most_sides = let few = c.args.draft.few_sides in omega arith in
     record {
       counted = sides_counted c.args.draft.shape.polygons c.push.new.self (words_of c.args.pairs.words.now) c.in_ok-polygon.polygon c.args.draft.sides c.args.pairs.count c.args.draft.counted c.requires.count c.in_ok-polygon.ensures.points c.in_ok-push.ensures.ok;
       few_sides = fit;
@@ -29,8 +30,8 @@ invariant_of-draft c =
 
 pub returns : goal.returns
 returns c =
-    let few : length c.args.draft.shape.polygons < 256 = let len = c.len.ensures in omega arith in
-    let fit : c.args.draft.sides + c.args.pairs.count ≤ 1024 = let few = c.args.draft.few_sides in omega arith in
+    let few : length c.args.draft.shape.polygons < most_polygons = let len = c.len.ensures in omega arith in
+    let fit : c.args.draft.sides + c.args.pairs.count ≤ most_sides = let few = c.args.draft.few_sides in omega arith in
     adds_polygon c.args.number (kept_draft c.args.draft) (words_of c.args.pairs.words.now) c.in_ok-polygon.polygon c.push.new.self
     (nil_by_length c.args.draft.commands (sym c.is_empty.ensures ∙ c.if-not-is_empty.false))
     (has_room (kept_draft c.args.draft) (words_of c.args.pairs.words.now) c.args.draft.sides c.args.pairs.count c.args.draft.counted c.requires.count few fit)
