@@ -3,6 +3,7 @@
 import difflib
 import os
 import re
+import signal
 import sys
 
 TOP = os.path.dirname(os.path.dirname(os.path.realpath(__file__)))
@@ -137,6 +138,8 @@ def write_or_compare(path, text, is_check):
 
 def run(name, main):
     """Ends with main's status, or with 2 where the repository isn't as it expects."""
+    # (whoever reads the output may have enough of it)
+    signal.signal(signal.SIGPIPE, signal.SIG_DFL)
     try:
         sys.exit(main())
     except Unexpected as error:
