@@ -19,7 +19,7 @@ abbrev pub corner : ℕ → ℕ → Corner
 corner i j = record { polygon = i; side = j }
 
 -- a corner between the bounds is in the row
-pub in_row : (i a n j : ℕ) → a ≤ j → j < a + n → IsIn (corner i j) (sides_between i a n)
+in_row : (i a n j : ℕ) → a ≤ j → j < a + n → IsIn (corner i j) (sides_between i a n)
 in_row i a n j l m = in_map (corner i) j (range_with_len a n) (in_range a n j l m)
 
 -- a corner of the row is between the bounds

@@ -36,7 +36,7 @@ unmarked_has [] i j h = cc
 unmarked_has (polygon ∷ polygons) zero j h = unmarked_some polygon j h
 unmarked_has (polygon ∷ polygons) (suc i) j h = unmarked_has polygons i j h
 
-pub rows_unmarked : {X : Type 0} (polygons : List (List X)) → AreUnmarked polygons (unmarked_rows polygons)
+rows_unmarked : {X : Type 0} (polygons : List (List X)) → AreUnmarked polygons (unmarked_rows polygons)
 rows_unmarked polygons = record {
   covers = record { each = λ c h. unmarked_has polygons c.polygon c.side h };
   none = λ c. unmarked_at polygons c.polygon c.side;
@@ -59,7 +59,7 @@ module _ (marks : List (List Bool)) (c : Corner) (row : List Bool) (is : slice_g
   at_other : (e : Corner) → ¬ (e.polygon ≡ c.polygon) → at_side new e ≡ at_side marks e
   at_other e n = ap (option_and_then (λ r. slice_get r e.side)) (slice_get-set_other marks c.polygon e.polygon (set row c.side true) n)
 
-  pub set_mark : MarksCorner c marks new
+  set_mark : MarksCorner c marks new
   set_mark = record {
     covers = record {
       each = λ e h. elim (cases_eq e.polygon c.polygon) [

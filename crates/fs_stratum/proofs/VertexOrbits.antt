@@ -37,7 +37,7 @@ is_next_corner polygons c h = is_next_by polygons c (at_side polygons (side_befo
 abbrev pub ahead : List (List Side) → ℕ → Corner → Corner
 ahead polygons n c = iterate (next polygons) n c
 
-pub ahead_is : (polygons : List (List Side)) (n : ℕ) (c e : Corner) → IsNthNextCorner polygons n c e → e ≡ ahead polygons n c
+ahead_is : (polygons : List (List Side)) (n : ℕ) (c e : Corner) → IsNthNextCorner polygons n c e → e ≡ ahead polygons n c
 ahead_is polygons zero c e h = sym h
 ahead_is polygons (suc n) c e (mid, t, h) = ahead_is polygons n mid e h ∙ ap (ahead polygons n) (next_is polygons c mid t)
 

@@ -24,12 +24,12 @@ abbrev pub scale_stop : ScaleTest → BuildStop
 scale_stop test = stop_of (of_scaling test)
 
 -- ---- polygon i from side j on, and the polygons from i on
-pub next_side : (i : ℕ) (points : List Point) (j : ℕ) (point : Point) → IsItem points j point
+next_side : (i : ℕ) (points : List Point) (j : ℕ) (point : Point) → IsItem points j point
     → numbered_sides i j (drop j points) ≡ numbered_sides i j (point ∷ []) ++ numbered_sides i (j + 1) (drop (j + 1) points)
 next_side i points j point item = ap (numbered_sides i j) (drop_item points j point item)
 
 -- the sides from polygon i on are those of polygon i and those from polygon i + 1 on
-pub next_polygon : (polygons : List (List Point)) (i : ℕ) (points : List Point) → IsItem polygons i points
+next_polygon : (polygons : List (List Point)) (i : ℕ) (points : List Point) → IsItem polygons i points
     → numbered_from i (drop i polygons) ≡ numbered_sides i 0 points ++ numbered_from (i + 1) (drop (i + 1) polygons)
 next_polygon polygons i points item = ap (numbered_from i) (drop_item polygons i points item)
 

@@ -117,15 +117,6 @@ added_more d sum i positions j total next one two c is l first second e a = reco
       ∙ sum_after-ok d total next (triangle i (j - 1) one two ∷ []) (triangles_at i (j + 1 - 1) positions) (e ∙ ap (λ (k : Corner). sum_after d total (triangle k.polygon k.side one two ∷ [])) is);
 }
 
--- the next triangle has a site, and it is the site of the whole sum
-pub added_stops : (d : ℕ) (sum : Quadratic) (i : ℕ) (positions : List PlaneVector) (j : ℕ) (total : Quadratic) (site : Site) (one two : PlaneVector) (c : Corner) → c ≡ record { polygon = i; side = j - 1 } → 2 ≤ j
-    → IsItem positions (j - 1) one → IsItem positions j two → Err site ≡ sum_after d total (triangle c.polygon c.side one two ∷ []) → AddsTrianglesUpTo d sum i positions j total
-    → Err site ≡ sum_after d sum (triangles_at i 1 positions)
-added_stops d sum i positions j total site one two c is l first second e a =
-    sym (a.is
-    ∙ ap (sum_after d total) (next_triangle i j positions one two l first second)
-    ∙ sum_after-stop d total site (triangle i (j - 1) one two ∷ []) (triangles_at i (j + 1 - 1) positions) (e ∙ ap (λ (k : Corner). sum_after d total (triangle k.polygon k.side one two ∷ [])) is))
-
 -- after all positions the sum has all triangles of the polygon
 pub added_all : (d : ℕ) (sum : Quadratic) (i : ℕ) (positions : List PlaneVector) (j : ℕ) (total : Quadratic) → length positions ≤ j → AddsTrianglesUpTo d sum i positions j total
     → Ok total ≡ sum_after d sum (triangles_at i 1 positions)
