@@ -7,15 +7,15 @@ use Rattle.fs_ring.specs.Vector.{unit_vector, neg_vector, cross as cross_over}
 use Rattle.fs_ring.proofs.Signs as signs
 use Rattle.fs_ring.proofs.Directions as directions
 use Rattle.fs_ring.proofs.Solver.{expressions as E, ◌≐◌}
+use Rattle.fs_ring.proofs.Plane.{cross_self}
 use Rattle.fs_quadratic.specs.Radicand.{IsRadicand}
-use Rattle.fs_quadratic.specs.Ring.{zero as nil, one, neg, quadratic, IsPositive, sign}
+use Rattle.fs_quadratic.specs.Ring.{neg, quadratic, IsPositive, sign}
 use Rattle.fs_quadratic.proofs.Laws.{field_order, quadratic_ring}
 use Rattle.fs_quadratic.proofs.SquareRoot.{radicand_no_square}
 use Rattle.fs_quadratic.proofs.Signs.{positive_of_sign, negative_of_sign}
 use Rattle.fs_cycles.proofs.Iterates.{iterate_after}
 use Rattle.fs_plane.specs.declared.corners.Corner.{Corner}
 use Rattle.fs_plane.specs.Vector.{vector_neg, vector_zero, cross, is_raised, raised_by_signs, PlaneVector, east}
-use Rattle.fs_ring.proofs.Plane.{cross_self}
 use Rattle.fs_gluing.specs.declared.surfaces.Side.{Side}
 use Rattle.fs_gluing.specs.Polygons.{at_side, HasSide, all_sides}
 use Rattle.fs_gluing.specs.Surface.{GluedPolygons, IsSurface}

@@ -1,9 +1,8 @@
 -- The rays of a corner: the side that begins there, and the opposite of the one that ends there.
-use Rattle.std.proofs.Common.{◌≡◌, ℕ, zero, suc, ◌-◌, Bool, true, false, not, ◌&&◌, Option, Some, None, List, [], ◌∷◌, length, if◌then◌else◌, ◌==◌, unwrap_or, sym, ap, ◌∙◌, refl, subst, arith}
-use Rattle.std.proofs.lemmas.Bool.Decides.{nat_tests}
+use Rattle.std.proofs.Common.{◌≡◌, ℕ, zero, suc, ◌-◌, Bool, true, false, not, ◌&&◌, Option, Some, None, List, [], ◌∷◌, length, unwrap_or, sym, ap, ◌∙◌, refl, subst}
 use Rattle.std.proofs.lemmas.Option.{same_Some, slice_get-map}
 use Rattle.std.proofs.lemmas.List.{length-map}
-use Rattle.std.specs.Option.{IsSome, IfSome, option_and_then, option_map}
+use Rattle.std.specs.Option.{IfSome, option_and_then, option_map}
 use Rattle.std.specs.List.{slice_get, AllByRecursion}
 use Rattle.fs_lists.proofs.All.{All-slice_get}
 use Rattle.fs_lists.proofs.Items.{value_of}

@@ -5,12 +5,12 @@ use Rattle.std.proofs.lemmas.Option.{same_Some, slice_get-map, slice_get-get_or,
 use Rattle.std.proofs.lemmas.List.{length-map, map-set, map-append, take_more, take_all}
 use Rattle.std.specs.Option.{IsSome, IfSome, option_and_then, option_map}
 use Rattle.std.specs.List.{slice_get}
-use Rattle.fs_gluing.proofs.Base.Equality.{corner_eq}
+use Rattle.fs_lists.proofs.Items.{some_of_inside, value_of, slice_get-set_same, slice_get-set_other, some_of_set}
 use Rattle.fs_plane.specs.declared.corners.Corner.{Corner}
 use Rattle.fs_gluing.specs.Polygons.{at_side, HasSide}
+use Rattle.fs_gluing.proofs.Base.Equality.{corner_eq}
 use Rattle.fs_gluing.proofs.SurfaceCalls.NextCorner.{in_polygon}
 use Rattle.fs_stratum.specs.CornerMarks.{is_marked, AreUnmarked, MarksCorner}
-use Rattle.fs_lists.proofs.Items.{some_of_inside, value_of, slice_get-set_same, slice_get-set_other, some_of_set}
 
 -- a row of marks for each polygon, none of which is set
 abbrev pub unmarked_rows : {X : Type 0} → List (List X) → List (List Bool)

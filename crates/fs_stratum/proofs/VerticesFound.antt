@@ -1,15 +1,14 @@
 -- The vertices that are found corner by corner, and the order of corners.
-use Rattle.std.proofs.Common.{◌≡◌, ◌⊎◌, inl, inr, ℕ, ◌+◌, ◌<◌, Bool, true, false, List, [], ◌∷◌, ◌++◌, length, map, sym, ap, ◌∙◌, refl, subst, arith}
-use Rattle.std.proofs.lemmas.Bool.{cases_eq, cases_order, cases_Bool}
+use Rattle.std.proofs.Common.{◌≡◌, inl, inr, ℕ, ◌+◌, ◌<◌, Bool, true, false, List, [], ◌∷◌, ◌++◌, length, map, sym, ap, ◌∙◌, subst, arith}
+use Rattle.std.proofs.lemmas.Bool.{cases_eq, cases_Bool}
 use Rattle.std.proofs.lemmas.List.Elements.{Contains-append_left, Contains-push, Contains-push_cases}
 use Rattle.std.specs.Bool.{IsTrue}
-use Rattle.std.specs.Cmp.{nat_cmp_is}
-use Rattle.std.specs.Ordering.{nat_cmp, ordering_then}
 use Rattle.std.specs.Option.{IsSome, IfSome, option_and_then}
 use Rattle.std.specs.List.{AllByRecursion, Contains, slice_get}
-use Rattle.std.specs.declared.cmp.Ordering.{Ordering}
-use Rattle.std.specs.declared.cmp.Ordering.TheVariants.{Less, Equal, Greater}
+use Rattle.std.specs.declared.cmp.Ordering.TheVariants.{Less}
+use Rattle.std.proofs.lemmas.Option.{slice_get_within}
 use Rattle.fs_lists.proofs.All.{All-append, All-weaker}
+use Rattle.fs_lists.proofs.Items.{some_of_inside, value_of}
 use Rattle.fs_plane.specs.declared.corners.Corner.{Corner}
 use Rattle.fs_gluing.specs.declared.surfaces.Side.{Side}
 use Rattle.fs_gluing.specs.Gluing.{corner_cmp}
@@ -21,11 +20,8 @@ use Rattle.fs_stratum.specs.declared.cones.Cone.{Cone}
 use Rattle.fs_stratum.specs.VertexList.{IsVertex, AreAscending, AreVertices}
 use Rattle.fs_stratum.specs.CornerMarks.{is_marked, AreUnmarked, MarksVertex}
 use Rattle.fs_stratum.specs.VerticesFound.{AreFoundBefore}
-use Rattle.std.proofs.lemmas.Option.{slice_get_within}
 use Rattle.fs_stratum.proofs.CornerOrder.{less_of, of_less, to_next, here_next, next_cases, to_row}
-use Rattle.fs_gluing.proofs.Base.Equality.{corner_eq}
 use Rattle.fs_stratum.proofs.AllSides.{corner}
-use Rattle.fs_lists.proofs.Items.{some_of_inside, value_of}
 use Rattle.fs_stratum.proofs.VertexOrbits.{has_one_vertex, one_vertex_self, one_vertex_trans, one_vertex_comm}
 use Rattle.fs_stratum.proofs.VertexMarks.{not_both}
 

@@ -1,5 +1,5 @@
 -- The search through glued sides marks the polygons that are reached from polygon 0.
-use Rattle.std.proofs.Common.{◌≡◌, ◌↔◌, ◌⊎◌, inl, inr, ℕ, suc, ◌+◌, ◌-◌, ◌<◌, Bool, true, false, not, cond, List, [], ◌∷◌, ◌++◌, Some, length, take, get_or, set, replicate, count_by, sym, ap, ◌∙◌, refl, subst, arith}
+use Rattle.std.proofs.Common.{◌≡◌, ◌↔◌, ◌⊎◌, inl, inr, ℕ, ◌+◌, ◌-◌, ◌<◌, Bool, true, false, not, cond, List, [], ◌∷◌, ◌++◌, Some, length, take, get_or, set, replicate, count_by, sym, ap, ◌∙◌, refl, subst, arith}
 use Rattle.std.proofs.lemmas.Bool.{cases_lt, cases_eq}
 use Rattle.std.proofs.lemmas.List.{append-nil, get_or_default, get_or_past, get_or-set_same, get_or-set_other, get_or-replicate, length-map, length-replicate, length-set, length-append, take_more, map-append}
 use Rattle.std.proofs.lemmas.List.Elements.{All-from_recursion, All-get_or, Contains-append_left, Contains-push, Contains-push_cases}
@@ -9,6 +9,7 @@ use Rattle.std.specs.Bool.{IsTrue}
 use Rattle.std.specs.Option.{option_map, option_and_then}
 use Rattle.std.specs.List.{AllByRecursion, Contains, slice_get, range_with_len}
 use Rattle.fs_lists.proofs.All.{All-of_each}
+use Rattle.fs_lists.proofs.Ranges.{range_more}
 use Rattle.fs_plane.specs.declared.corners.Corner.{Corner}
 use Rattle.fs_gluing.specs.declared.surfaces.Side.{Side}
 use Rattle.fs_gluing.specs.declared.faults.Fault.TheVariants.{Apart}
@@ -21,7 +22,6 @@ use Rattle.fs_gluing.specs.Polygons.{at_side}
 use Rattle.fs_gluing.specs.Reached.{IsReached}
 use Rattle.fs_gluing.specs.Surface.{AreNeighbours, IsGlued}
 use Rattle.fs_gluing.proofs.Base.TestsInOrder.{passes_before_none, passes_before_more, passes_before_same, first_stop_of_rest, first_stop_of_head}
-use Rattle.fs_lists.proofs.Ranges.{range_more}
 use Rattle.fs_gluing.proofs.SurfaceCalls.NextCorner.{in_polygon_at}
 
 bool_cases : (b : Bool) → IsTrue b ⊎ (¬ IsTrue b)

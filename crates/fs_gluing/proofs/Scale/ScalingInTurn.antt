@@ -1,13 +1,13 @@
 -- The tests of scaling, side by side and polygon by polygon.
 use Rattle.std.proofs.Common.{◌≡◌, ℕ, ℤ, pos, ◌+◌, ◌/◌, ◌*ℤ◌, ◌<◌, ◌^◌, List, [], ◌∷◌, ◌++◌, drop, map, sym, ap, ◌∙◌, refl, subst, append_assoc, arith, to_z, of_z}
 use Rattle.std.proofs.lemmas.Int.{ints}
-use Rattle.std.proofs.lemmas.List.{drop_more}
 use Rattle.std.proofs.Math.Nat.{div-le_self}
 use Rattle.std.specs.Int.{w128}
 use Rattle.std.specs.List.{AllByRecursion}
-use Rattle.fs_plane.specs.Vector.{PlaneVector}
+use Rattle.fs_lists.proofs.Items.{IsItem, drop_item}
 use Rattle.fs_quadratic.specs.Width.{InWidth}
 use Rattle.fs_fraction.proofs.Inverses.{through_bits}
+use Rattle.fs_plane.specs.Vector.{PlaneVector}
 use Rattle.fs_plane.specs.declared.corners.Corner.{Corner}
 use Rattle.fs_plane.specs.declared.sites.Site.TheVariants as sites
 use Rattle.fs_gluing.specs.declared.shapes.Point.{Point}
@@ -17,7 +17,6 @@ use Rattle.fs_gluing.specs.Scaling.{NumberedSide, numbered_sides, numbered_from,
 use Rattle.fs_gluing.specs.FirstFault.{of_scaling, stop_of}
 use Rattle.fs_gluing.specs.TestsInOrder.{PassesBefore, IsFirstStop}
 use Rattle.fs_gluing.proofs.Base.TestsInOrder.{passes_before_more, passes_before_same, first_stop_of_rest, first_stop_of_head, first_stop_of_prefix}
-use Rattle.fs_lists.proofs.Items.{IsItem, drop_item}
 
 -- the stop of a test of scaling
 abbrev pub scale_stop : ScaleTest → BuildStop

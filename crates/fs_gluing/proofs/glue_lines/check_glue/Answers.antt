@@ -1,13 +1,13 @@
 -- A glue line passes its three tests, or fails the first of them that it can fail.
 use Rattle.std.proofs.Common.{sym, ◌∙◌, List}
 use Rattle.std.specs.BTreeMap.{get}
+use Rattle.fs_lists.proofs.Items.{not_some}
 use Rattle.fs_gluing.specs.FirstFault.{PassesLine, glued_once}
 use Rattle.fs_gluing.specs.Polygons.{HasSide}
 use Rattle.fs_gluing.specs.declared.shapes.Glue.{Glue}
 use Rattle.fs_gluing.specs.Gluing.{corner_cmp, ArePartners}
 use Rattle.fs_gluing.proofs.Base.Equality.{same_from_eq, differ_from_eq, differ_from_ne, same_from_ne}
 use Rattle.fs_gluing.proofs.Gluing.GlueLines.{sides_exist_by, absent_one, absent_two, absent_fails, twice_fails, opposite_fails, line_passes, glued_once_by, one_glued_before, two_glued_before, are_opposite, vectors_opposite}
-use Rattle.fs_lists.proofs.Items.{not_some}
 use Rattle.fs_gluing.proofs.glue_lines.check_glue.Goals as goal
 use Rattle.fs_gluing.proofs.glue_lines.check_glue.Goals.{After-ne}
 use Rattle.fs_gluing.proofs.glue_lines.check_glue.Goals.{then-eq-via-then-eq, then-eq-via-else-eq+then-contains_key, then-eq-via-else-eq+else-contains_key+then-contains_key-2}
