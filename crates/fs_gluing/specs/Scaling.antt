@@ -1,9 +1,9 @@
 -- One denominator for all coordinates of a shape.
 use Rattle.std.specs.Prelude.{ℕ, ℤ, pos, ◌+◌, ◌*◌, ◌/◌, ◌*ℤ◌, List, [], ◌∷◌, ◌++◌, map}
-use Rattle.fs_plane.specs.Vector.{PlaneVector}
 use Rattle.fs_quadratic.specs.Width.{InWidth}
 use Rattle.fs_fraction.specs.Divisor.{gcd}
 use Rattle.fs_fraction.specs.Fraction.{scale}
+use Rattle.fs_plane.specs.Vector.{PlaneVector}
 use Rattle.fs_gluing.specs.declared.shapes.Point.{Point}
 
 -- a side of a shape: its polygon, its number there, and its unscaled vector

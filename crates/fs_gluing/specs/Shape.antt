@@ -1,10 +1,10 @@
 -- Shapes: what a surface is built from.
 use Rattle.std.specs.Prelude.{◌≡◌, ℕ, pos, ◌<◌, ◌≤◌, List, ◌∷◌, [], Some, length, map, sum_by, unsigned_abs}
 use Rattle.std.specs.List.{AllByRecursion, flat_map}
-use Rattle.fs_gluing.specs.Limits.{most_polygons, most_sides}
-use Rattle.fs_plane.specs.Vector.{PlaneVector}
 use Rattle.fs_fraction.specs.Fraction.{HasValue}
+use Rattle.fs_plane.specs.Vector.{PlaneVector}
 use Rattle.fs_plane.specs.declared.corners.Corner.{Corner}
+use Rattle.fs_gluing.specs.Limits.{most_polygons, most_sides}
 use Rattle.fs_gluing.specs.declared.shapes.Glue.{Glue}
 use Rattle.fs_gluing.specs.declared.shapes.Point.{Point}
 use Rattle.fs_gluing.specs.declared.shapes.Shape.{Shape}

@@ -1,10 +1,10 @@
 -- Translation surfaces: polygons with a gluing.
 use Rattle.std.specs.Prelude.{◌≡◌, ◌≢◌, ℕ, ℤ, pos, ◌<◌, ◌≤◌, ◌<ℤ◌, List, Some, length, map, sum_by}
 use Rattle.std.specs.List.{AllByRecursion}
-use Rattle.fs_gluing.specs.Limits.{most_polygons, most_sides}
 use Rattle.fs_quadratic.specs.Radicand.{IsRadicand}
 use Rattle.fs_plane.specs.declared.corners.Corner.{Corner}
 use Rattle.fs_plane.specs.Vector.{vector_neg, PlaneVector}
+use Rattle.fs_gluing.specs.Limits.{most_polygons, most_sides}
 use Rattle.fs_gluing.specs.declared.surfaces.Side.{Side}
 use Rattle.fs_gluing.specs.Convex.{IsClosed, IsStrictlyConvex, HasTurningNumberOne, corners_of}
 use Rattle.fs_gluing.specs.Polygons.{at_side}

@@ -1,25 +1,23 @@
 -- The list of all sides of polygons has each side exactly once.
-use Rattle.std.proofs.Common.{◌≡◌, inl, inr, ℕ, zero, suc, ◌+◌, ◌<◌, ◌≤◌, List, [], ◌∷◌, length, map, sum_by, sym, ap, ◌∙◌, refl, subst, arith}
-use Rattle.std.proofs.lemmas.Bool.{cases_eq}
+use Rattle.std.proofs.Common.{◌≡◌, inl, inr, ℕ, zero, suc, ◌+◌, ◌<◌, ◌≤◌, List, [], ◌∷◌, length, sum_by, sym, ap, ◌∙◌, refl, subst, arith}
 use Rattle.std.proofs.lemmas.List.{length-append}
 use Rattle.std.proofs.lemmas.List.FromFn.{length-map-range_with_len}
 use Rattle.std.proofs.lemmas.List.Sums.{sum_by-cons}
-use Rattle.std.specs.Option.{IsSome}
-use Rattle.std.specs.List.{slice_get, range_with_len}
-use Rattle.fs_gluing.specs.Gluing.{sides_between}
+use Rattle.std.specs.List.{range_with_len}
+use Rattle.fs_lists.specs.Members.{IsIn, IsDistinct}
 use Rattle.fs_lists.proofs.Items.{inside_of_some, some_of_inside}
-use Rattle.fs_plane.specs.declared.corners.Corner.{Corner}
-use Rattle.fs_gluing.specs.Polygons.{HasSide, sides_from, all_sides}
-use Rattle.fs_lists.specs.Members.{IsIn, IsDistinct, IsDecidable}
 use Rattle.fs_lists.proofs.Members.{in_append_left, in_append_right, in_append_cases, apart_append, in_map, in_map_cases, apart_map}
 use Rattle.fs_lists.proofs.Ranges.{in_range, range_bounds, range_distinct}
+use Rattle.fs_plane.specs.declared.corners.Corner.{Corner}
+use Rattle.fs_gluing.specs.Gluing.{sides_between}
+use Rattle.fs_gluing.specs.Polygons.{HasSide, sides_from, all_sides}
 
 -- the corner with these numbers
 abbrev pub corner : ℕ → ℕ → Corner
 corner i j = record { polygon = i; side = j }
 
 -- a corner between the bounds is in the row
-pub in_row : (i a n j : ℕ) → a ≤ j → j < a + n → IsIn (corner i j) (sides_between i a n)
+in_row : (i a n j : ℕ) → a ≤ j → j < a + n → IsIn (corner i j) (sides_between i a n)
 in_row i a n j l m = in_map (corner i) j (range_with_len a n) (in_range a n j l m)
 
 -- a corner of the row is between the bounds

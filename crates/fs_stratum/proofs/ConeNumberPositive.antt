@@ -7,15 +7,15 @@ use Rattle.fs_ring.specs.Vector.{unit_vector, neg_vector, cross as cross_over}
 use Rattle.fs_ring.proofs.Signs as signs
 use Rattle.fs_ring.proofs.Directions as directions
 use Rattle.fs_ring.proofs.Solver.{expressions as E, ◌≐◌}
+use Rattle.fs_ring.proofs.Plane.{cross_self}
 use Rattle.fs_quadratic.specs.Radicand.{IsRadicand}
-use Rattle.fs_quadratic.specs.Ring.{zero as nil, one, neg, quadratic, IsPositive, sign}
+use Rattle.fs_quadratic.specs.Ring.{neg, quadratic, IsPositive, sign}
 use Rattle.fs_quadratic.proofs.Laws.{field_order, quadratic_ring}
 use Rattle.fs_quadratic.proofs.SquareRoot.{radicand_no_square}
 use Rattle.fs_quadratic.proofs.Signs.{positive_of_sign, negative_of_sign}
 use Rattle.fs_cycles.proofs.Iterates.{iterate_after}
 use Rattle.fs_plane.specs.declared.corners.Corner.{Corner}
 use Rattle.fs_plane.specs.Vector.{vector_neg, vector_zero, cross, is_raised, raised_by_signs, PlaneVector, east}
-use Rattle.fs_ring.proofs.Plane.{cross_self}
 use Rattle.fs_gluing.specs.declared.surfaces.Side.{Side}
 use Rattle.fs_gluing.specs.Polygons.{at_side, HasSide, all_sides}
 use Rattle.fs_gluing.specs.Surface.{GluedPolygons, IsSurface}
@@ -32,7 +32,7 @@ use Rattle.fs_stratum.proofs.CornerRays.{rays, raised_or, is_ray_raised, next_ra
 -- where a vector and the one to its left are both raised, or both not, it isn't on the line of (1,0)
 module _ {d : ℕ} (radicand : IsRadicand d) (v w : PlaneVector) (left : IsPositive d (cross d v w)) where
   -- both are raised: v points up
-  pub above : is_raised d v ≡ true → is_raised d w ≡ true → IsPositive d v.y
+  above : is_raised d v ≡ true → is_raised d w ≡ true → IsPositive d v.y
   above e f = go (sign d v.y) (sign d v.x) (sign d w.y) refl (convex_signs radicand v w left) e f
     where
       go : (bv bh av : Ordering) → sign d v.y ≡ bv → HasConvexSigns bv bh av (sign d w.x) → raised_by_signs bv bh ≡ true → raised_by_signs av (sign d w.x) ≡ true → IsPositive d v.y
@@ -43,7 +43,7 @@ module _ {d : ℕ} (radicand : IsRadicand d) (v w : PlaneVector) (left : IsPosit
       go Equal Greater av is t e f = cc
 
   -- neither is raised: v points down
-  pub below : is_raised d v ≡ false → is_raised d w ≡ false → IsPositive d (neg v.y)
+  below : is_raised d v ≡ false → is_raised d w ≡ false → IsPositive d (neg v.y)
   below e f = go (sign d v.y) (sign d v.x) (sign d w.y) refl (convex_signs radicand v w left) e f
     where
       go : (bv bh av : Ordering) → sign d v.y ≡ bv → HasConvexSigns bv bh av (sign d w.x) → raised_by_signs bv bh ≡ false → raised_by_signs av (sign d w.x) ≡ false → IsPositive d (neg v.y)

@@ -1,10 +1,10 @@
 -- How many corners of a list have a property.
 use Rattle.std.proofs.Common.{◌≡◌, ◌⊎◌, inl, inr, ℕ, suc, ◌+◌, ◌≤◌, Bool, true, List, [], ◌∷◌, length, sym, ap, ◌∙◌, refl, subst, arith}
 use Rattle.std.proofs.lemmas.Bool.{cases_Bool}
-use Rattle.fs_plane.specs.declared.corners.Corner.{Corner}
-use Rattle.fs_gluing.specs.Vertices.{IsCount}
 use Rattle.fs_lists.specs.Members.{IsIn, IsDistinct}
 use Rattle.fs_lists.proofs.Counts.{tally, one_if}
+use Rattle.fs_plane.specs.declared.corners.Corner.{Corner}
+use Rattle.fs_gluing.specs.Vertices.{IsCount}
 
 -- properties that hold of the same corners have one count
 pub count_same : (P Q : Corner → Type 0) (xs : List Corner) (k : ℕ) → ((c : Corner) → IsIn c xs → P c → Q c) → ((c : Corner) → IsIn c xs → Q c → P c) → IsCount P xs k → IsCount Q xs k

@@ -1,9 +1,8 @@
 -- The rays of a corner: the side that begins there, and the opposite of the one that ends there.
-use Rattle.std.proofs.Common.{◌≡◌, ℕ, zero, suc, ◌-◌, Bool, true, false, not, ◌&&◌, Option, Some, None, List, [], ◌∷◌, length, if◌then◌else◌, ◌==◌, unwrap_or, sym, ap, ◌∙◌, refl, subst, arith}
-use Rattle.std.proofs.lemmas.Bool.Decides.{nat_tests}
+use Rattle.std.proofs.Common.{◌≡◌, ℕ, zero, suc, ◌-◌, Bool, true, false, not, ◌&&◌, Option, Some, None, List, [], ◌∷◌, length, unwrap_or, sym, ap, ◌∙◌, refl, subst}
 use Rattle.std.proofs.lemmas.Option.{same_Some, slice_get-map}
 use Rattle.std.proofs.lemmas.List.{length-map}
-use Rattle.std.specs.Option.{IsSome, IfSome, option_and_then, option_map}
+use Rattle.std.specs.Option.{IfSome, option_and_then, option_map}
 use Rattle.std.specs.List.{slice_get, AllByRecursion}
 use Rattle.fs_lists.proofs.All.{All-slice_get}
 use Rattle.fs_lists.proofs.Items.{value_of}
@@ -98,10 +97,10 @@ module _ (s : GluedPolygons) (surface : IsSurface s) (c : Corner) (h : HasSide s
   pub next_ray : (r : HasRays s c) → at_side s.polygons (next s.polygons c) ≡ Some (record { vector = vector_neg r.before.vector; partner = side_before s.polygons c })
   next_ray r = ap (λ o. at_side s.polygons (partner_or c o)) r.ends ∙ (surface.glued (side_before s.polygons c) r.before r.ends).back
 
-  pub ray-here : (r : HasRays s c) → is_ray_raised s c ≡ is_raised s.d r.after.vector
+  ray-here : (r : HasRays s c) → is_ray_raised s c ≡ is_raised s.d r.after.vector
   ray-here r = ap (raised_or s.d) r.begins
 
-  pub ray-next : (r : HasRays s c) → is_ray_raised s (next s.polygons c) ≡ not (is_raised s.d r.before.vector)
+  ray-next : (r : HasRays s c) → is_ray_raised s (next s.polygons c) ≡ not (is_raised s.d r.before.vector)
   ray-next r =
       ap (raised_or s.d) (next_ray r)
       ∙ raised-neg surface.radicand r.before.vector (λ z. axis.before-ne-zero (field_order surface.radicand) r.before.vector r.after.vector r.convex z.0 z.1)

@@ -2,12 +2,12 @@
 use Rattle.std.proofs.Common.{◌≡◌, ℕ, ◌+◌, ◌*◌, ◌-◌, ◌≤◌, List, [], ◌∷◌, length, sum_by, ◌∙◌, arith}
 use Rattle.std.proofs.lemmas.List.Sums.{sum_by-cons}
 use Rattle.std.specs.List.{AllByRecursion}
+use Rattle.fs_lists.proofs.Counts.{tally}
 use Rattle.fs_gluing.specs.Polygons.{all_sides}
 use Rattle.fs_gluing.specs.Surface.{GluedPolygons, IsSurface}
 use Rattle.fs_gluing.specs.Vertices.{HoldsEast, IsCount}
 use Rattle.fs_stratum.specs.declared.cones.Cone.{Cone}
 use Rattle.fs_stratum.specs.VertexList.{HasGenus}
-use Rattle.fs_lists.proofs.Counts.{tally}
 use Rattle.fs_stratum.proofs.AllSides.{length-all_sides}
 use Rattle.fs_stratum.proofs.HeldCorners.{low_at}
 use Rattle.fs_stratum.proofs.RaisedSides.{low-half, held-half}

@@ -1,23 +1,23 @@
 -- How many corners of a polygon hold (1,0): one less than its sides that aren't raised.
-use Rattle.std.proofs.Common.{◌≡◌, ℕ, suc, ◌+◌, ◌-◌, Bool, false, cond, not, Option, Some, None, List, [], ◌∷◌, inl, length, map, count_by, sym, ap, ◌∙◌, refl, arith}
+use Rattle.std.proofs.Common.{◌≡◌, ℕ, suc, ◌+◌, ◌-◌, Bool, false, cond, not, Option, Some, None, List, [], ◌∷◌, inl, length, count_by, sym, ap, ◌∙◌, refl, arith}
 use Rattle.std.proofs.lemmas.List.Sums.{sum_by-cons}
 use Rattle.std.proofs.lemmas.List.{length-map}
 use Rattle.std.specs.Option.{option_and_then}
 use Rattle.std.specs.List.{slice_get, range_with_len, AllByRecursion}
-use Rattle.fs_gluing.specs.Gluing.{sides_between}
-use Rattle.fs_gluing.proofs.SurfaceCalls.NextCorner.{before, before_zero, before_suc}
+use Rattle.fs_lists.proofs.All.{All-weaker}
+use Rattle.fs_lists.proofs.Counts.{tally, one_if, tally-append, tally-agree, tally-map}
+use Rattle.fs_lists.proofs.Items.{some_of_inside, value_of}
 use Rattle.fs_quadratic.specs.Radicand.{IsRadicand}
 use Rattle.fs_plane.specs.declared.corners.Corner.{Corner}
 use Rattle.fs_plane.specs.Vector.{is_raised, PlaneVector}
+use Rattle.fs_gluing.specs.Gluing.{sides_between}
 use Rattle.fs_gluing.specs.declared.surfaces.Side.{Side}
-use Rattle.fs_gluing.specs.Convex.{corners_of, corners_from, last_side, IsStrictlyConvex, is_rise}
+use Rattle.fs_gluing.specs.Convex.{corners_of, corners_from, last_side, is_rise}
 use Rattle.fs_gluing.specs.Polygons.{at_side, sides_from, all_sides}
 use Rattle.fs_gluing.specs.Surface.{GluedPolygons, IsSurface, IsPolygon, side_vectors}
 use Rattle.fs_gluing.specs.NextCorner.{side_before, length_or_0}
-use Rattle.fs_lists.proofs.All.{All-weaker}
-use Rattle.fs_lists.proofs.Counts.{tally, one_if, tally-append, tally-agree, tally-map}
+use Rattle.fs_gluing.proofs.SurfaceCalls.NextCorner.{before, before_zero, before_suc}
 use Rattle.fs_stratum.proofs.AllSides.{corner}
-use Rattle.fs_lists.proofs.Items.{some_of_inside, value_of}
 use Rattle.fs_stratum.proofs.SectorOfEast.{IsConvexOrStraight, is_held, is_east, counted}
 use Rattle.fs_stratum.proofs.CornerRays.{last_is}
 

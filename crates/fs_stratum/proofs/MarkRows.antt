@@ -5,12 +5,12 @@ use Rattle.std.proofs.lemmas.Option.{same_Some, slice_get-map, slice_get-get_or,
 use Rattle.std.proofs.lemmas.List.{length-map, map-set, map-append, take_more, take_all}
 use Rattle.std.specs.Option.{IsSome, IfSome, option_and_then, option_map}
 use Rattle.std.specs.List.{slice_get}
-use Rattle.fs_gluing.proofs.Base.Equality.{corner_eq}
+use Rattle.fs_lists.proofs.Items.{some_of_inside, value_of, slice_get-set_same, slice_get-set_other, some_of_set}
 use Rattle.fs_plane.specs.declared.corners.Corner.{Corner}
 use Rattle.fs_gluing.specs.Polygons.{at_side, HasSide}
+use Rattle.fs_gluing.proofs.Base.Equality.{corner_eq}
 use Rattle.fs_gluing.proofs.SurfaceCalls.NextCorner.{in_polygon}
 use Rattle.fs_stratum.specs.CornerMarks.{is_marked, AreUnmarked, MarksCorner}
-use Rattle.fs_lists.proofs.Items.{some_of_inside, value_of, slice_get-set_same, slice_get-set_other, some_of_set}
 
 -- a row of marks for each polygon, none of which is set
 abbrev pub unmarked_rows : {X : Type 0} → List (List X) → List (List Bool)
@@ -36,7 +36,7 @@ unmarked_has [] i j h = cc
 unmarked_has (polygon ∷ polygons) zero j h = unmarked_some polygon j h
 unmarked_has (polygon ∷ polygons) (suc i) j h = unmarked_has polygons i j h
 
-pub rows_unmarked : {X : Type 0} (polygons : List (List X)) → AreUnmarked polygons (unmarked_rows polygons)
+rows_unmarked : {X : Type 0} (polygons : List (List X)) → AreUnmarked polygons (unmarked_rows polygons)
 rows_unmarked polygons = record {
   covers = record { each = λ c h. unmarked_has polygons c.polygon c.side h };
   none = λ c. unmarked_at polygons c.polygon c.side;
@@ -59,7 +59,7 @@ module _ (marks : List (List Bool)) (c : Corner) (row : List Bool) (is : slice_g
   at_other : (e : Corner) → ¬ (e.polygon ≡ c.polygon) → at_side new e ≡ at_side marks e
   at_other e n = ap (option_and_then (λ r. slice_get r e.side)) (slice_get-set_other marks c.polygon e.polygon (set row c.side true) n)
 
-  pub set_mark : MarksCorner c marks new
+  set_mark : MarksCorner c marks new
   set_mark = record {
     covers = record {
       each = λ e h. elim (cases_eq e.polygon c.polygon) [

@@ -4,9 +4,14 @@ use Rattle.std.proofs.lemmas.List.{length-map}
 use Rattle.std.specs.Option.{IsSome, IfSome}
 use Rattle.std.specs.List.{AllByRecursion, slice_get}
 use Rattle.std.specs.declared.cmp.Ordering.TheVariants.{Less}
+use Rattle.std.proofs.lemmas.Option.{slice_get_within}
+use Rattle.fs_lists.specs.Members.{IsIn, AreApart}
+use Rattle.fs_lists.proofs.Members.{in_of_contains, in_map, in_map_cases, All-member}
+use Rattle.fs_lists.proofs.Counts.{tally}
+use Rattle.fs_lists.proofs.Items.{some_of_inside, value_of}
+use Rattle.fs_lists.proofs.All.{All-slice_get}
 use Rattle.fs_cycles.specs.Cycles as cycles
 use Rattle.fs_cycles.specs.Blocks.{StepsBack}
-use Rattle.fs_lists.proofs.Members.{in_of_contains, in_map, in_map_cases, All-member}
 use Rattle.fs_cycles.proofs.Blocks.{even_with_blocks}
 use Rattle.fs_plane.specs.declared.corners.Corner.{Corner}
 use Rattle.fs_gluing.specs.declared.surfaces.Side.{Side}
@@ -16,17 +21,12 @@ use Rattle.fs_gluing.specs.Surface.{GluedPolygons, IsSurface, IsPolygon, side_ve
 use Rattle.fs_gluing.specs.NextCorner.{IsNextCorner, side_before, side_count}
 use Rattle.fs_gluing.specs.Vertices.{AreOneVertex}
 use Rattle.fs_gluing.proofs.SurfaceCalls.NextCorner.{has_before, in_polygon, next_corner_one_to_one, before, before_suc}
+use Rattle.fs_gluing.proofs.Base.Equality.{corner_eq, same_corner}
 use Rattle.fs_stratum.specs.declared.cones.Cone.{Cone}
 use Rattle.fs_stratum.specs.VertexList.{IsVertex, AreVertices, AreAscending}
-use Rattle.fs_lists.proofs.Counts.{tally}
-use Rattle.std.proofs.lemmas.Option.{slice_get_within}
-use Rattle.fs_stratum.proofs.CornerOrder.{less_of, of_less, less_trans}
-use Rattle.fs_gluing.proofs.Base.Equality.{corner_eq, same_corner}
-use Rattle.fs_lists.specs.Members.{IsIn, AreApart}
+use Rattle.fs_stratum.proofs.CornerOrder.{less_trans}
 use Rattle.fs_stratum.proofs.AllSides.{corner, in_all_sides, all_sides_in, all_sides_distinct}
-use Rattle.fs_lists.proofs.Items.{some_of_inside, value_of}
 use Rattle.fs_stratum.proofs.VertexOrbits.{next, partner_or, is_next_corner, leads_of, one_vertex_of, one_vertex_comm}
-use Rattle.fs_lists.proofs.All.{All-slice_get}
 use Rattle.fs_stratum.proofs.VerticesFound.{has_in_row}
 use Rattle.fs_stratum.proofs.HeldCorners.{low_at}
 use Rattle.fs_stratum.proofs.RaisedSides.{partner, pairs, low-half}

@@ -2,17 +2,17 @@
 use Rattle.std.proofs.Common.{◌≡◌, ◌≢◌, ℕ, ◌+◌, not, Some, List, length, sym, ap, ◌∙◌, refl, subst, Bool, arith}
 use Rattle.std.specs.Option.{IsSome}
 use Rattle.std.proofs.Math.Bool.{not-not}
-use Rattle.fs_cycles.proofs.Iterates.{permutes_undone}
 use Rattle.fs_lists.specs.Members.{IsIn, IsDistinct}
+use Rattle.fs_lists.proofs.Counts.{tally, tally-at_most, tally-not}
 use Rattle.fs_quadratic.proofs.Laws.{field_order}
 use Rattle.fs_cycles.specs.Cycles.{Pairs}
+use Rattle.fs_cycles.proofs.Iterates.{permutes_undone}
 use Rattle.fs_plane.specs.declared.corners.Corner.{Corner}
 use Rattle.fs_plane.specs.Vector.{vector_neg}
 use Rattle.fs_gluing.specs.declared.surfaces.Side.{Side}
 use Rattle.fs_gluing.specs.Polygons.{at_side, HasSide, all_sides}
 use Rattle.fs_gluing.specs.Surface.{GluedPolygons, IsSurface, IsGlued}
 use Rattle.fs_gluing.specs.Vertices.{HoldsEast, IsCount}
-use Rattle.fs_lists.proofs.Counts.{tally, tally-at_most, tally-not}
 use Rattle.fs_stratum.proofs.AllSides.{in_all_sides, all_sides_in, all_sides_distinct}
 use Rattle.fs_stratum.proofs.AxisSigns as axis
 use Rattle.fs_stratum.proofs.SectorOfEast.{raised-neg}

@@ -3,6 +3,7 @@ use Rattle.std.proofs.Common.{◌≡◌, ℕ, ◌+◌, Bool, true, false, not, �
 use Rattle.std.specs.Ordering.{is_gt, ordering_reverse}
 use Rattle.std.specs.declared.cmp.Ordering.{Ordering}
 use Rattle.std.specs.declared.cmp.Ordering.TheVariants.{Less, Equal, Greater}
+use Rattle.fs_lists.proofs.Counts.{one_if}
 use Rattle.fs_ring.specs.Vector.{unit_vector}
 use Rattle.fs_ring.specs.Direction.{IsAlong, InSector, at_start, inside}
 use Rattle.fs_quadratic.specs.Radicand.{IsRadicand}
@@ -13,7 +14,6 @@ use Rattle.fs_quadratic.proofs.SquareRoot.{radicand_no_square}
 use Rattle.fs_quadratic.proofs.Signs.{sign-positive, sign-negative, sign-zero, sign-neg, positive_of_sign, zero_of_sign, negative_of_sign}
 use Rattle.fs_plane.specs.Vector.{vector_neg, cross, dot, norm, is_upper, upper_by_signs, is_raised, raised_by_signs, PlaneVector}
 use Rattle.fs_gluing.specs.Convex.{CornerSides, IsStrictlyConvex, is_rise}
-use Rattle.fs_lists.proofs.Counts.{one_if}
 use Rattle.fs_stratum.proofs.AxisSigns as axis
 
 -- ---- a strictly convex corner by the signs of y and of x, before and after

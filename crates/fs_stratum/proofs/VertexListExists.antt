@@ -3,9 +3,8 @@ use Rattle.std.proofs.Common.{◌≡◌, ◌⊎◌, inl, inr, ℕ, zero, suc, �
 use Rattle.std.proofs.lemmas.List.Elements.{Contains-append_left, Contains-push}
 use Rattle.std.specs.List.{AllByRecursion}
 use Rattle.std.specs.declared.cmp.Ordering.TheVariants.{Less}
-use Rattle.fs_stratum.proofs.CornerOrder.{less_of, not_less_itself, not_less_both_ways}
-use Rattle.fs_lists.proofs.All.{All-append, All-weaker}
 use Rattle.fs_lists.specs.Members.{IsIn}
+use Rattle.fs_lists.proofs.All.{All-append, All-weaker}
 use Rattle.fs_lists.proofs.Members.{in_append_cases}
 use Rattle.fs_plane.specs.declared.corners.Corner.{Corner}
 use Rattle.fs_gluing.specs.Gluing.{corner_cmp, sides_between}
@@ -14,6 +13,7 @@ use Rattle.fs_gluing.specs.Surface.{GluedPolygons, IsSurface}
 use Rattle.fs_gluing.specs.Vertices.{AreOneVertex, HoldsEast, IsCount, IsConeNumber}
 use Rattle.fs_stratum.specs.declared.cones.Cone.{Cone}
 use Rattle.fs_stratum.specs.VertexList.{IsVertex, AreVertices, AreAscending}
+use Rattle.fs_stratum.proofs.CornerOrder.{less_of, not_less_itself, not_less_both_ways}
 use Rattle.fs_stratum.proofs.AllSides.{corner, row_in, sides_from_in, in_all_sides, all_sides_in}
 use Rattle.fs_stratum.proofs.VertexOrbits.{has_one_vertex, one_vertex_self, one_vertex_trans, one_vertex_comm}
 use Rattle.fs_stratum.proofs.VerticesFound.{ascending_push, IsListed}

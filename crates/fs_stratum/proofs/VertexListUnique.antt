@@ -1,9 +1,6 @@
 -- A surface has at most one list of vertices, and one genus for their number.
-use Rattle.std.proofs.Common.{◌≡◌, ◌⊎◌, inl, inr, ℕ, suc, List, [], ◌∷◌, sym, ap, ◌∙◌, refl, subst, arith}
-use Rattle.std.proofs.lemmas.Bool.{cases_order}
+use Rattle.std.proofs.Common.{◌≡◌, inl, inr, ℕ, suc, List, [], ◌∷◌, sym, ap, ◌∙◌, refl, subst, arith}
 use Rattle.std.specs.declared.cmp.Ordering.TheVariants.{Less}
-use Rattle.fs_stratum.proofs.CornerOrder.{less_of, of_less, less_trans, not_less_both_ways, corner_cases, not_less_itself}
-use Rattle.fs_gluing.proofs.Base.Equality.{corner_eq}
 use Rattle.fs_lists.specs.Members.{IsIn}
 use Rattle.fs_lists.proofs.Members.{in_of_contains, in_map, All-member}
 use Rattle.fs_plane.specs.declared.corners.Corner.{Corner}
@@ -12,6 +9,7 @@ use Rattle.fs_gluing.specs.Surface.{GluedPolygons, IsSurface}
 use Rattle.fs_gluing.specs.Vertices.{AreOneVertex, IsCount, IsConeNumber}
 use Rattle.fs_stratum.specs.declared.cones.Cone.{Cone}
 use Rattle.fs_stratum.specs.VertexList.{IsVertex, AreVertices, AreAscending, IsGenus}
+use Rattle.fs_stratum.proofs.CornerOrder.{not_less_both_ways, corner_cases, not_less_itself}
 use Rattle.fs_stratum.proofs.VertexOrbits.{one_vertex_comm}
 use Rattle.fs_stratum.proofs.Parity.{firsts, ascending_tail, ascending_less}
 

@@ -1,20 +1,19 @@
 -- The corners of a vertex are marked one after another, from a first one on.
-use Rattle.std.proofs.Common.{◌≡◌, ◌⊎◌, inl, inr, ℕ, zero, suc, ◌<◌, ◌≤◌, Bool, true, false, not, ◌&&◌, List, [], ◌∷◌, sym, ap, ◌∙◌, refl, subst, arith}
+use Rattle.std.proofs.Common.{◌≡◌, ◌⊎◌, inl, inr, ℕ, zero, suc, ◌<◌, ◌≤◌, Bool, true, false, not, ◌&&◌, List, sym, ap, ◌∙◌, refl, subst, arith}
 use Rattle.std.proofs.lemmas.Bool.{cases_Bool}
 use Rattle.std.specs.Bool.{IsTrue}
 use Rattle.std.specs.Option.{IfSome}
-use Rattle.fs_gluing.proofs.Base.Equality.{same_corner}
-use Rattle.fs_gluing.specs.Limits.{most_sides}
-use Rattle.fs_lists.specs.Members.{IsIn}
+use Rattle.fs_lists.proofs.Counts.{tally, tally-less}
 use Rattle.fs_plane.specs.declared.corners.Corner.{Corner}
-use Rattle.fs_gluing.specs.declared.surfaces.Side.{Side}
 use Rattle.fs_plane.specs.Vector.{is_raised, PlaneVector}
+use Rattle.fs_gluing.specs.Limits.{most_sides}
+use Rattle.fs_gluing.specs.declared.surfaces.Side.{Side}
 use Rattle.fs_gluing.specs.Polygons.{at_side, HasSide, all_sides}
 use Rattle.fs_gluing.specs.Surface.{GluedPolygons, IsSurface}
 use Rattle.fs_gluing.specs.NextCorner.{IsNextCorner}
 use Rattle.fs_gluing.specs.Vertices.{IsNthNextCorner, AreOneVertex, HoldsEast, IsCount, IsConeNumber}
+use Rattle.fs_gluing.proofs.Base.Equality.{same_corner}
 use Rattle.fs_stratum.specs.CornerMarks.{is_marked, Covers, MarksCorner, MarksVertex}
-use Rattle.fs_lists.proofs.Counts.{one_if, tally, tally-less}
 use Rattle.fs_stratum.proofs.AllSides.{in_all_sides, all_sides_distinct, length-all_sides}
 use Rattle.fs_stratum.proofs.VertexOrbits.{next, next_is, has_next, has_one_vertex, one_vertex_self, one_vertex_next}
 use Rattle.fs_stratum.proofs.CornerRays.{is_ray_raised, ray_read, holds_from_rays, rays_from_holds}
@@ -77,7 +76,6 @@ vertex_marks_none s first old fresh covers = record {
 }
 
 module _ {s : GluedPolygons} {first : Corner} {old : List (List Bool)} (surface : IsSurface s) (has : HasSide s.polygons first) where
-
   -- corner c exists
   pub has_corner : {now : List (List Bool)} {c : Corner} {k : ℕ} → MarksVertexUpTo s first old now c k → HasSide s.polygons c
   has_corner {now} {c} {k} r = has_one_vertex s.polygons surface.glued first c has r.here

@@ -1,7 +1,6 @@
 -- The step to the next corner round a vertex is a permutation that returns to each corner.
 use Rattle.std.proofs.Common.{◌≡◌, ℕ, zero, suc, ◌+◌, Option, Some, None, List, sym, ap, ◌∙◌, refl, subst, arith}
 use Rattle.std.specs.Option.{IsSome}
-use Rattle.fs_gluing.proofs.Base.Equality.{same_corner}
 use Rattle.fs_cycles.specs.Cycles.{Permutes, iterate, LeadsTo}
 use Rattle.fs_cycles.proofs.Iterates.{returns, leads_symm, leads_in}
 use Rattle.fs_plane.specs.declared.corners.Corner.{Corner}
@@ -9,6 +8,7 @@ use Rattle.fs_gluing.specs.declared.surfaces.Side.{Side}
 use Rattle.fs_gluing.specs.Polygons.{at_side, HasSide, all_sides}
 use Rattle.fs_gluing.specs.NextCorner.{IsNextCorner, side_before}
 use Rattle.fs_gluing.specs.Vertices.{IsNthNextCorner, AreOneVertex}
+use Rattle.fs_gluing.proofs.Base.Equality.{same_corner}
 use Rattle.fs_gluing.proofs.SurfaceCalls.NextCorner.{IsGluing, has_before, has_next_corner, next_corner_one_to_one}
 use Rattle.fs_stratum.proofs.AllSides.{in_all_sides, all_sides_in}
 
@@ -37,7 +37,7 @@ is_next_corner polygons c h = is_next_by polygons c (at_side polygons (side_befo
 abbrev pub ahead : List (List Side) → ℕ → Corner → Corner
 ahead polygons n c = iterate (next polygons) n c
 
-pub ahead_is : (polygons : List (List Side)) (n : ℕ) (c e : Corner) → IsNthNextCorner polygons n c e → e ≡ ahead polygons n c
+ahead_is : (polygons : List (List Side)) (n : ℕ) (c e : Corner) → IsNthNextCorner polygons n c e → e ≡ ahead polygons n c
 ahead_is polygons zero c e h = sym h
 ahead_is polygons (suc n) c e (mid, t, h) = ahead_is polygons n mid e h ∙ ap (ahead polygons n) (next_is polygons c mid t)
 

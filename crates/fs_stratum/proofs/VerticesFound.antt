@@ -1,15 +1,14 @@
 -- The vertices that are found corner by corner, and the order of corners.
-use Rattle.std.proofs.Common.{◌≡◌, ◌⊎◌, inl, inr, ℕ, ◌+◌, ◌<◌, Bool, true, false, List, [], ◌∷◌, ◌++◌, length, map, sym, ap, ◌∙◌, refl, subst, arith}
-use Rattle.std.proofs.lemmas.Bool.{cases_eq, cases_order, cases_Bool}
+use Rattle.std.proofs.Common.{◌≡◌, inl, inr, ℕ, ◌+◌, ◌<◌, Bool, true, false, List, [], ◌∷◌, ◌++◌, length, map, sym, ap, ◌∙◌, subst, arith}
+use Rattle.std.proofs.lemmas.Bool.{cases_eq, cases_Bool}
 use Rattle.std.proofs.lemmas.List.Elements.{Contains-append_left, Contains-push, Contains-push_cases}
 use Rattle.std.specs.Bool.{IsTrue}
-use Rattle.std.specs.Cmp.{nat_cmp_is}
-use Rattle.std.specs.Ordering.{nat_cmp, ordering_then}
 use Rattle.std.specs.Option.{IsSome, IfSome, option_and_then}
 use Rattle.std.specs.List.{AllByRecursion, Contains, slice_get}
-use Rattle.std.specs.declared.cmp.Ordering.{Ordering}
-use Rattle.std.specs.declared.cmp.Ordering.TheVariants.{Less, Equal, Greater}
+use Rattle.std.specs.declared.cmp.Ordering.TheVariants.{Less}
+use Rattle.std.proofs.lemmas.Option.{slice_get_within}
 use Rattle.fs_lists.proofs.All.{All-append, All-weaker}
+use Rattle.fs_lists.proofs.Items.{some_of_inside, value_of}
 use Rattle.fs_plane.specs.declared.corners.Corner.{Corner}
 use Rattle.fs_gluing.specs.declared.surfaces.Side.{Side}
 use Rattle.fs_gluing.specs.Gluing.{corner_cmp}
@@ -21,11 +20,8 @@ use Rattle.fs_stratum.specs.declared.cones.Cone.{Cone}
 use Rattle.fs_stratum.specs.VertexList.{IsVertex, AreAscending, AreVertices}
 use Rattle.fs_stratum.specs.CornerMarks.{is_marked, AreUnmarked, MarksVertex}
 use Rattle.fs_stratum.specs.VerticesFound.{AreFoundBefore}
-use Rattle.std.proofs.lemmas.Option.{slice_get_within}
 use Rattle.fs_stratum.proofs.CornerOrder.{less_of, of_less, to_next, here_next, next_cases, to_row}
-use Rattle.fs_gluing.proofs.Base.Equality.{corner_eq}
 use Rattle.fs_stratum.proofs.AllSides.{corner}
-use Rattle.fs_lists.proofs.Items.{some_of_inside, value_of}
 use Rattle.fs_stratum.proofs.VertexOrbits.{has_one_vertex, one_vertex_self, one_vertex_trans, one_vertex_comm}
 use Rattle.fs_stratum.proofs.VertexMarks.{not_both}
 
@@ -58,38 +54,40 @@ module _ (s : GluedPolygons) where
   pub found_same : (c : Corner) {marks more : List (List Bool)} {cones others : List Cone} → more ≡ marks → others ≡ cones → AreFoundBefore s c marks cones → AreFoundBefore s c more others
   found_same c {marks} {more} {cones} {others} e f found = subst (λ x. AreFoundBefore s c more x) (sym f) (subst (λ x. AreFoundBefore s c x cones) (sym e) found)
 
-  -- a marked corner is of a vertex that was found
-  pub found_seen : (i j : ℕ) (marks : List (List Bool)) (cones : List Cone) → AreFoundBefore s (corner i j) marks cones → is_marked marks (corner i j) ≡ true → AreFoundBefore s (corner i (j + 1)) marks cones
-  found_seen i j marks cones f seen = record {
+  -- a greater corner, where the corners between are of vertices that were found
+  found_later : (c e : Corner) (marks : List (List Bool)) (cones : List Cone) → AreFoundBefore s c marks cones → ((x : Corner) → corner_cmp x c ≡ Less → corner_cmp x e ≡ Less)
+      → ((x : Corner) → HasSide s.polygons x → corner_cmp x e ≡ Less → IsTrue (is_marked marks x)) → AreFoundBefore s e marks cones
+  found_later c e marks cones f later passed = record {
     covers = f.covers;
     each = f.each;
     ascending = f.ascending;
-    earlier = All-weaker cones (λ c. to_next c.first i j) f.earlier;
+    earlier = All-weaker cones (λ x. later x.first) f.earlier;
     marked = f.marked;
-    passed = λ e has h. elim (next_cases e i j h) [ inl l ↦ f.passed e has l | inr same ↦ ap (is_marked marks) (sym same) ∙ seen ];
+    passed = passed;
   }
+
+  -- a marked corner is of a vertex that was found
+  pub found_seen : (i j : ℕ) (marks : List (List Bool)) (cones : List Cone) → AreFoundBefore s (corner i j) marks cones → is_marked marks (corner i j) ≡ true → AreFoundBefore s (corner i (j + 1)) marks cones
+  found_seen i j marks cones f seen =
+      found_later (corner i j) (corner i (j + 1)) marks cones f (λ x. to_next x i j)
+      (λ e has h. elim (next_cases e i j h) [ inl l ↦ f.passed e has l | inr same ↦ ap (is_marked marks) (sym same) ∙ seen ])
 
   -- after the last corner of a polygon comes the first of the next
   pub found_row : (i n : ℕ) (marks : List (List Bool)) (cones : List Cone) → AreFoundBefore s (corner i n) marks cones → IfSome (slice_get s.polygons i) (λ polygon. n ≡ length polygon)
       → AreFoundBefore s (corner (i + 1) 0) marks cones
-  found_row i n marks cones f is = record {
-    covers = f.covers;
-    each = f.each;
-    ascending = f.ascending;
-    earlier = All-weaker cones (λ c. to_row c.first i n) f.earlier;
-    marked = f.marked;
-    passed = λ e has h. f.passed e has (less_of e (corner i n) (elim (of_less e (corner (i + 1) 0) h) [
-      | inl l ↦ elim (cases_eq e.polygon i) [
-        | inl same ↦
-            let st = in_polygon s.polygons e has in
-            let long : n ≡ length st.polygon = subst (λ o. IfSome o (λ (polygon : List Side). n ≡ length polygon)) (ap (slice_get s.polygons) (sym same) ∙ st.is) is in
-            let inside = st.inside in
-            inr (same, omega arith)
-        | inr apart ↦ inl (omega arith)
-      ]
-      | inr k ↦ let l = k.1 in absurd (omega arith)
-    ]));
-  }
+  found_row i n marks cones f is =
+      found_later (corner i n) (corner (i + 1) 0) marks cones f (λ x. to_row x i n)
+      (λ e has h. f.passed e has (less_of e (corner i n) (elim (of_less e (corner (i + 1) 0) h) [
+        | inl l ↦ elim (cases_eq e.polygon i) [
+          | inl same ↦
+              let st = in_polygon s.polygons e has in
+              let long : n ≡ length st.polygon = subst (λ o. IfSome o (λ (polygon : List Side). n ≡ length polygon)) (ap (slice_get s.polygons) (sym same) ∙ st.is) is in
+              let inside = st.inside in
+              inr (same, omega arith)
+          | inr apart ↦ inl (omega arith)
+        ]
+        | inr k ↦ let l = k.1 in absurd (omega arith)
+      ])))
 
   -- side j of polygon i exists
   pub has_in_row : (i j n : ℕ) → i < length s.polygons → IfSome (slice_get s.polygons i) (λ polygon. n ≡ length polygon) → j < n → HasSide s.polygons (corner i j)

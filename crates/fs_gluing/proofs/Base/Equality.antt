@@ -24,7 +24,7 @@ Decides-is_same_number a b = Decides-like _
     (λ e. (ap (λ (x : Quadratic). x.p) e, ap (λ (x : Quadratic). x.q) e))
     (Decides-and _ _ (Decides-int_eq a.p b.p) (Decides-int_eq a.q b.q))
 
-pub Decides-is_same_vector : (a b : PlaneVector) → Decides (is_same_vector a b) (a ≡ b)
+Decides-is_same_vector : (a b : PlaneVector) → Decides (is_same_vector a b) (a ≡ b)
 Decides-is_same_vector a b = Decides-like _
     (λ e. ap (λ x. record { x = x; y = a.y }) e.0 ∙ ap (λ y. record { x = b.x; y = y }) e.1)
     (λ e. (ap (λ (v : PlaneVector). v.x) e, ap (λ (v : PlaneVector). v.y) e))
@@ -60,16 +60,16 @@ Decides-is_same_corner a b = Decides-like _
     (Decides-and _ _ (Decides-eqb a.polygon b.polygon) (Decides-eqb a.side b.side))
 
 -- where `==` is true, the corners are equal
-pub one_corner : (a b : Corner) (r : Bool) → r ≡ is_same_corner a b → r ≡ true → a ≡ b
-one_corner a b r is e = (Decides-is_same_corner a b).0 (sym is ∙ e)
+pub same_from_eq : (a b : Corner) (r : Bool) → r ≡ is_same_corner a b → r ≡ true → a ≡ b
+same_from_eq a b r is e = (Decides-is_same_corner a b).0 (sym is ∙ e)
 
 -- false isn't true
 pub false_not_true : false ≡ true → ⊥
 false_not_true e = cc
 
 -- where `==` is false, the corners differ
-pub two_corners : (a b : Corner) (r : Bool) → r ≡ is_same_corner a b → r ≡ false → a ≢ b
-two_corners a b r is e same = false_not_true (sym e ∙ is ∙ (Decides-is_same_corner a b).1 same)
+pub differ_from_eq : (a b : Corner) (r : Bool) → r ≡ is_same_corner a b → r ≡ false → a ≢ b
+differ_from_eq a b r is e same = false_not_true (sym e ∙ is ∙ (Decides-is_same_corner a b).1 same)
 
 -- corners with the same numbers are equal
 pub corner_eq : {a b : Corner} → a.polygon ≡ b.polygon → a.side ≡ b.side → a ≡ b

@@ -1,8 +1,7 @@
 -- Tests in order: a prefix that passes, and the stop of the first test that fails.
-use Rattle.std.proofs.Common.{◌≡◌, List, [], ◌∷◌, Result, Ok, Err, ◌++◌, sym, ◌∙◌, refl, subst, map, append_assoc}
+use Rattle.std.proofs.Common.{◌≡◌, List, [], ◌∷◌, ◌++◌, sym, ◌∙◌, refl, subst, map, append_assoc}
 use Rattle.std.proofs.lemmas.List.{append-nil}
 use Rattle.std.specs.List.{AllByRecursion}
-use Rattle.std.specs.Result.{IsErrAnd}
 use Rattle.fs_lists.specs.First.{IsFirstWithout}
 use Rattle.fs_lists.proofs.All.{All-append, All-weaker}
 use Rattle.fs_lists.proofs.First.{first_of_prefix, first_of_suffix, first_of_map}

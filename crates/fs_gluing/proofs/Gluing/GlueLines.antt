@@ -1,8 +1,9 @@
 -- The tests of the glue lines, line by line.
-use Rattle.std.proofs.Common.{◌≡◌, ◌≢◌, ℕ, ◌+◌, false, Option, Some, None, List, [], ◌∷◌, ◌++◌, take, drop, sym, ap, ◌∙◌, refl, subst}
-use Rattle.std.proofs.lemmas.List.{take_more, drop_more}
+use Rattle.std.proofs.Common.{◌≡◌, ◌≢◌, ℕ, ◌+◌, Option, Some, None, List, [], ◌∷◌, ◌++◌, take, drop, sym, ap, ◌∙◌, refl, subst}
+use Rattle.std.proofs.lemmas.List.{take_more}
 use Rattle.std.specs.List.{AllByRecursion}
-use Rattle.std.specs.Option.{IsSome, is_some}
+use Rattle.std.specs.Option.{IsSome}
+use Rattle.fs_lists.proofs.Items.{IsItem, none_not_some, drop_item}
 use Rattle.fs_plane.specs.declared.corners.Corner.{Corner}
 use Rattle.fs_plane.specs.Vector.{vector_neg, PlaneVector}
 use Rattle.fs_gluing.specs.declared.shapes.Glue.{Glue}
@@ -14,7 +15,6 @@ use Rattle.fs_gluing.specs.FirstFault.{LineTest, sides_exist, glued_once, sides_
 use Rattle.fs_gluing.specs.Gluing.{ArePartners}
 use Rattle.fs_gluing.specs.TestsInOrder.{PassesBefore, IsFirstStop}
 use Rattle.fs_gluing.proofs.Base.TestsInOrder.{passes_before_more, passes_before_same, first_stop_of_rest, first_stop_of_head, first_stop_of_prefix}
-use Rattle.fs_lists.proofs.Items.{IsItem, none_not_some, drop_item}
 use Rattle.fs_gluing.proofs.Gluing.Partners.{listed_has_partner, listed_from_partner}
 
 -- the stop of a test of a glue line

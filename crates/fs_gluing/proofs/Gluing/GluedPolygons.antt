@@ -3,11 +3,12 @@ use Rattle.std.proofs.Common.{◌≡◌, ◌≢◌, inl, inr, ℕ, ◌+◌, ◌<
 use Rattle.std.proofs.lemmas.List.Sums.{sum_by-cons}
 use Rattle.std.specs.Option.{IsSome, option_map, option_and_then}
 use Rattle.std.specs.List.{AllByRecursion, slice_get}
-use Rattle.fs_gluing.specs.Limits.{most_polygons, most_sides}
-use Rattle.fs_quadratic.specs.Radicand.{IsRadicand}
 use Rattle.fs_lists.proofs.All.{All-suffix, All-prefix, All-of_map}
+use Rattle.fs_lists.proofs.Items.{value_of, comes_from}
+use Rattle.fs_quadratic.specs.Radicand.{IsRadicand}
 use Rattle.fs_plane.specs.declared.corners.Corner.{Corner}
 use Rattle.fs_plane.specs.Vector.{vector_neg, PlaneVector}
+use Rattle.fs_gluing.specs.Limits.{most_polygons, most_sides}
 use Rattle.fs_gluing.specs.declared.shapes.Glue.{Glue}
 use Rattle.fs_gluing.specs.declared.surfaces.Side.{Side}
 use Rattle.fs_gluing.specs.Convex.{CornerSides, IsStrictlyConvex, corners_of}
@@ -17,7 +18,6 @@ use Rattle.fs_gluing.specs.Shape.{AreGlued}
 use Rattle.fs_gluing.specs.Surface.{side_vectors, IsPolygon, AreNeighbours, IsGlued, IsSurface}
 use Rattle.fs_gluing.specs.FirstFault.{polygon_closes, turning_number_one, PassesIn, polygon_tests, position_tests, corner_tests, of_polygon, Passes, PassesLine, line_tests, AreOpposite, Joins, tests_from, Test}
 use Rattle.fs_gluing.specs.Gluing.{ArePartners, IsPairOf, sides_between, glued_polygon, glued_polygons}
-use Rattle.fs_lists.proofs.Items.{value_of, comes_from}
 use Rattle.fs_gluing.proofs.Gluing.GlueLines.{lines_hold}
 use Rattle.fs_gluing.proofs.Gluing.Partners.{partner_back, pair_other, pair_opposite}
 use Rattle.fs_gluing.proofs.Gluing.GluedSides.{side_of}

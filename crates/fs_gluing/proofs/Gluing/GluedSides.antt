@@ -3,6 +3,8 @@ use Rattle.std.proofs.Common.{◌≡◌, ℕ, ◌+◌, ◌-◌, ◌<◌, Option,
 use Rattle.std.proofs.lemmas.List.{drop_more}
 use Rattle.std.specs.Option.{IsSome}
 use Rattle.std.specs.List.{AllByRecursion}
+use Rattle.fs_lists.proofs.Items.{IsItem, drop_item}
+use Rattle.fs_lists.proofs.Ranges.{range_more}
 use Rattle.fs_plane.specs.Vector.{PlaneVector}
 use Rattle.fs_plane.specs.declared.corners.Corner.{Corner}
 use Rattle.fs_gluing.specs.declared.surfaces.Side.{Side}
@@ -12,8 +14,6 @@ use Rattle.fs_gluing.specs.FirstFault.{stop_of, side_glued}
 use Rattle.fs_gluing.specs.TestsInOrder.{PassesBefore, IsFirstStop}
 use Rattle.fs_gluing.specs.Gluing.{sides_between, glued_polygon, glued_polygons}
 use Rattle.fs_gluing.proofs.Base.TestsInOrder.{passes_before_more, passes_before_same, first_stop_of_rest, first_stop_of_prefix}
-use Rattle.fs_lists.proofs.Items.{IsItem, drop_item}
-use Rattle.fs_lists.proofs.Ranges.{range_more}
 
 -- the first j sides have partners, and the row has these sides
 pub record GluesSidesUpTo (p : Corner → Option Corner) (i : ℕ) (points : List PlaneVector) (j : ℕ) (row : List Side) : Type 0 where

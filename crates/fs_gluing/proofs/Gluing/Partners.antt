@@ -120,7 +120,7 @@ pair_opposite vector (g ∷ glues) c e a h = elim h [
 contains_head : (c x : Corner) (xs : List Corner) → x ≡ c → Contains (x ∷ xs) c
 contains_head c x xs e = (0, omega arith, e)
 
-pub pair_listed : (glues : List Glue) (c e : Corner) → IsPairOf glues c e → Contains (glued_sides glues) c
+pair_listed : (glues : List Glue) (c e : Corner) → IsPairOf glues c e → Contains (glued_sides glues) c
 pair_listed [] c e h = absurd h
 pair_listed (g ∷ glues) c e h = elim h [
   | inl k ↦ contains_head c g.one (g.two ∷ glued_sides glues) k.0

@@ -1,5 +1,5 @@
 -- The search through glued sides marks the polygons that are reached from polygon 0.
-use Rattle.std.proofs.Common.{◌≡◌, ◌↔◌, ◌⊎◌, inl, inr, ℕ, suc, ◌+◌, ◌-◌, ◌<◌, Bool, true, false, not, cond, List, [], ◌∷◌, ◌++◌, Some, length, take, get_or, set, replicate, count_by, sym, ap, ◌∙◌, refl, subst, arith}
+use Rattle.std.proofs.Common.{◌≡◌, ◌↔◌, ◌⊎◌, inl, inr, ℕ, ◌+◌, ◌-◌, ◌<◌, Bool, true, false, not, cond, List, [], ◌∷◌, ◌++◌, Some, length, take, get_or, set, replicate, count_by, sym, ap, ◌∙◌, refl, subst, arith}
 use Rattle.std.proofs.lemmas.Bool.{cases_lt, cases_eq}
 use Rattle.std.proofs.lemmas.List.{append-nil, get_or_default, get_or_past, get_or-set_same, get_or-set_other, get_or-replicate, length-map, length-replicate, length-set, length-append, take_more, map-append}
 use Rattle.std.proofs.lemmas.List.Elements.{All-from_recursion, All-get_or, Contains-append_left, Contains-push, Contains-push_cases}
@@ -9,6 +9,7 @@ use Rattle.std.specs.Bool.{IsTrue}
 use Rattle.std.specs.Option.{option_map, option_and_then}
 use Rattle.std.specs.List.{AllByRecursion, Contains, slice_get, range_with_len}
 use Rattle.fs_lists.proofs.All.{All-of_each}
+use Rattle.fs_lists.proofs.Ranges.{range_more}
 use Rattle.fs_plane.specs.declared.corners.Corner.{Corner}
 use Rattle.fs_gluing.specs.declared.surfaces.Side.{Side}
 use Rattle.fs_gluing.specs.declared.faults.Fault.TheVariants.{Apart}
@@ -21,7 +22,6 @@ use Rattle.fs_gluing.specs.Polygons.{at_side}
 use Rattle.fs_gluing.specs.Reached.{IsReached}
 use Rattle.fs_gluing.specs.Surface.{AreNeighbours, IsGlued}
 use Rattle.fs_gluing.proofs.Base.TestsInOrder.{passes_before_none, passes_before_more, passes_before_same, first_stop_of_rest, first_stop_of_head}
-use Rattle.fs_lists.proofs.Ranges.{range_more}
 use Rattle.fs_gluing.proofs.SurfaceCalls.NextCorner.{in_polygon_at}
 
 bool_cases : (b : Bool) → IsTrue b ⊎ (¬ IsTrue b)
@@ -31,7 +31,7 @@ bool_cases false = inr (λ h. cc)
 marked_cases : (marks : List Bool) (k : ℕ) → IsMarked marks k ⊎ (¬ IsMarked marks k)
 marked_cases marks k = bool_cases (get_or marks k false)
 
-pub marked_within : (marks : List Bool) (k : ℕ) → IsMarked marks k → k < length marks
+marked_within : (marks : List Bool) (k : ℕ) → IsMarked marks k → k < length marks
 marked_within marks k h = elim (cases_lt k (length marks)) [ inl l ↦ l | inr past ↦ absurd (let e : false ≡ true = sym (get_or_past marks k false past) ∙ h in cc) ]
 
 -- ---- the sides of one polygon
@@ -39,7 +39,7 @@ marked_within marks k h = elim (cases_lt k (length marks)) [ inl l ↦ l | inr p
 not_in_none : (k : ℕ) → Contains [] k → ⊥
 not_in_none k c = omega (arith, c.1)
 
-pub marks_seen : (ks : List ℕ) (k : ℕ) (marks more : List Bool) (waiting longer : List ℕ) → MarksPolygons ks marks more waiting longer → IsMarked more k → MarksPolygons (ks ++ k ∷ []) marks more waiting longer
+marks_seen : (ks : List ℕ) (k : ℕ) (marks more : List Bool) (waiting longer : List ℕ) → MarksPolygons ks marks more waiting longer → IsMarked more k → MarksPolygons (ks ++ k ∷ []) marks more waiting longer
 marks_seen ks k marks more waiting longer m seen = record {
   long = m.long;
   marked = λ j. (
@@ -75,7 +75,7 @@ count_set marks k l h =
     let total = sum_by-set weight marks k true false l in
     omega (arith, total, ap (λ b. weight b) (false_unless (get_or marks k false) h))
 
-pub marks_new : (ks : List ℕ) (k : ℕ) (marks more : List Bool) (waiting longer : List ℕ) → MarksPolygons ks marks more waiting longer → k < length more → ¬ IsMarked more k
+marks_new : (ks : List ℕ) (k : ℕ) (marks more : List Bool) (waiting longer : List ℕ) → MarksPolygons ks marks more waiting longer → k < length more → ¬ IsMarked more k
     → MarksPolygons (ks ++ k ∷ []) marks (set more k true) waiting (longer ++ k ∷ [])
 marks_new ks k marks more waiting longer m l fresh =
     let now : (j : ℕ) → IsMarked (set more k true) j ↔ (IsMarked more j ⊎ (k ≡ j)) = λ j. set_marked more k j l in
@@ -109,7 +109,7 @@ marks_new ks k marks more waiting longer m l fresh =
     }
 
 -- the polygons of the partners of one more side
-pub partners_more : (sides : List Side) (j : ℕ) (side : Side) → j < length sides → side ≡ get_or sides j side → partner_polygons (take (j + 1) sides) ≡ partner_polygons (take j sides) ++ side.partner.polygon ∷ []
+partners_more : (sides : List Side) (j : ℕ) (side : Side) → j < length sides → side ≡ get_or sides j side → partner_polygons (take (j + 1) sides) ≡ partner_polygons (take j sides) ++ side.partner.polygon ∷ []
 partners_more sides j side l is =
     ap partner_polygons (take_more sides j side l)
     ∙ map-append (λ (s : Side). s.partner.polygon) (take j sides) (get_or sides j side ∷ [])
@@ -170,7 +170,7 @@ marks_first n k h = elim (cases_eq 0 k) [
 ]
 
 -- at first polygon 0 is marked and waits
-pub search_none : (polygons : List (List Side)) (n : ℕ) → n ≡ length polygons → 0 < n → Searches polygons (set (replicate n false) 0 true) (0 ∷ [])
+search_none : (polygons : List (List Side)) (n : ℕ) → n ≡ length polygons → 0 < n → Searches polygons (set (replicate n false) 0 true) (0 ∷ [])
 search_none polygons n is some =
     let first : IsMarked (set (replicate n false) 0 true) 0 = get_or-set_same (replicate n false) 0 true false (omega (arith, some, length-replicate n false)) in
     record {

@@ -1,6 +1,5 @@
 -- The result of building a shape: the stop of the first failed test, or the surface.
-use Rattle.std.proofs.Common.{◌≡◌, ◌⊎◌, inl, inr, ℕ, ◌<◌, ◌≤◌, ℤ, pos, ◌+◌, ◌<ℤ◌, Option, Some, Result, Ok, Err, List, [], ◌++◌, length, sum_by, sym, ap, ◌∙◌, refl, subst, map, arith}
-use Rattle.std.specs.Prelude.{unsigned_abs}
+use Rattle.std.proofs.Common.{◌≡◌, ◌⊎◌, inl, inr, ℕ, ◌<◌, ◌≤◌, ℤ, pos, ◌+◌, Option, Some, Result, Ok, Err, List, [], ◌++◌, length, sum_by, sym, ap, ◌∙◌, refl, subst, map, arith}
 use Rattle.std.proofs.lemmas.Int.{ints}
 use Rattle.std.specs.Option.{IsSome}
 use Rattle.std.specs.List.{AllByRecursion, Contains, range_with_len}

@@ -1,14 +1,11 @@
 -- Each shape within the limits that passes all tests has a surface.
-use Rattle.std.proofs.Common.{ℕ, ◌+◌, ◌<◌, pos, ◌<ℤ◌, Option, Some, None, cond, List, [], ◌∷◌, ◌++◌, length, map, refl, sym, subst, arith, append-nil, append_assoc}
-use Rattle.std.proofs.lemmas.Int.{ints}
+use Rattle.std.proofs.Common.{ℕ, ◌+◌, ◌<◌, pos, Option, Some, None, cond, List, [], ◌∷◌, ◌++◌, length, map, refl, sym, subst, arith, append-nil, append_assoc}
 use Rattle.std.specs.BTreeMap.{is_at}
-use Rattle.std.specs.Option.{IsSome}
 use Rattle.std.specs.List.{AllByRecursion, Contains, range_with_len}
-use Rattle.fs_plane.specs.Vector.{PlaneVector}
 use Rattle.fs_lists.proofs.All.{All-append, All-prefix, All-suffix, All-weaker, All-of_map}
 use Rattle.fs_quadratic.specs.Radicand.{IsRadicand}
-use Rattle.fs_quadratic.specs.Width.{InWidth}
 use Rattle.fs_fraction.proofs.Divisors.{multiple_positive}
+use Rattle.fs_plane.specs.Vector.{PlaneVector}
 use Rattle.fs_plane.specs.declared.corners.Corner.{Corner}
 use Rattle.fs_gluing.specs.declared.shapes.Glue.{Glue}
 use Rattle.fs_gluing.specs.declared.shapes.Point.{Point}
@@ -18,7 +15,7 @@ use Rattle.fs_gluing.specs.FirstFault.{Test, of_scaling, of_line, side_glued, po
 use Rattle.fs_gluing.specs.Gluing.{ArePartners, corner_cmp, glued_polygons}
 use Rattle.fs_gluing.specs.Polygons.{all_sides}
 use Rattle.fs_gluing.specs.Reached.{IsReached}
-use Rattle.fs_gluing.specs.Scaling.{NumberedSide, all_numbered, numbered_sides, numbered_from, common_from, common_multiple, common_den, common_tests, part_tests, scale_tests, PassesScale}
+use Rattle.fs_gluing.specs.Scaling.{NumberedSide, all_numbered, numbered_sides, numbered_from, common_from, common_multiple, common_den, scale_tests, PassesScale}
 use Rattle.fs_gluing.specs.Shape.{IsWithinLimits, HasShape, glued_sides, polygons_of}
 use Rattle.fs_gluing.specs.Surface.{GluedPolygons, IsSurface, AreNeighbours}
 use Rattle.fs_gluing.proofs.Gluing.GluedPolygons.{IsPaired, rows_length, joined_neighbours}

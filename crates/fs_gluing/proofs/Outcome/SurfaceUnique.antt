@@ -4,8 +4,8 @@ use Rattle.std.proofs.lemmas.List.Elements.{All-contains, All-from_recursion}
 use Rattle.std.proofs.lemmas.Option.{same_Some}
 use Rattle.std.specs.Option.{option_map}
 use Rattle.std.specs.List.{AllByRecursion, Contains, slice_get}
-use Rattle.fs_plane.specs.Vector.{PlaneVector}
 use Rattle.fs_lists.proofs.Equal.{heads_equal, tails_equal, cons_equal}
+use Rattle.fs_plane.specs.Vector.{PlaneVector}
 use Rattle.fs_plane.specs.declared.corners.Corner.{Corner}
 use Rattle.fs_gluing.specs.declared.shapes.Glue.{Glue}
 use Rattle.fs_gluing.specs.declared.shapes.Shape.{Shape}

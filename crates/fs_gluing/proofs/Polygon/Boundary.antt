@@ -2,10 +2,12 @@
 use Rattle.std.proofs.Common.{◌≡◌, ◌≢◌, ℕ, ◌+◌, ◌-◌, ◌<◌, List, [], ◌∷◌, ◌++◌, length, get_or, take, drop, sym, ap, ◌∙◌, refl, subst, arith, append_assoc}
 use Rattle.std.proofs.lemmas.List.{take_more, take_all, drop_more, drop_all, append-nil}
 use Rattle.std.specs.List.{AllByRecursion, flat_map, range_with_len}
-use Rattle.fs_plane.specs.declared.sites.Site.{Site}
-use Rattle.fs_plane.specs.declared.corners.Corner.{Corner}
+use Rattle.fs_lists.proofs.Items.{IsItem}
+use Rattle.fs_lists.proofs.Ranges.{range_more, range_none}
 use Rattle.fs_quadratic.specs.Ring.{Quadratic, add}
 use Rattle.fs_quadratic.specs.Width.{Fits}
+use Rattle.fs_plane.specs.declared.sites.Site.{Site}
+use Rattle.fs_plane.specs.declared.corners.Corner.{Corner}
 use Rattle.fs_plane.specs.declared.sites.Site.TheVariants as sites
 use Rattle.fs_plane.specs.Vector.{vector_zero, vector_add, vector_total, vector_total_from, PlaneVector}
 use Rattle.fs_gluing.specs.declared.faults.BuildStop.{BuildStop}
@@ -16,8 +18,6 @@ use Rattle.fs_gluing.specs.Positions.{positions_from}
 use Rattle.fs_gluing.specs.FirstFault.{PolygonTest, x_fits, y_fits, polygon_closes, PassesIn, position_tests, of_polygon, stop_of}
 use Rattle.fs_gluing.specs.TestsInOrder.{PassesBefore, IsFirstStop}
 use Rattle.fs_gluing.proofs.Base.TestsInOrder.{passes_before_none, passes_before_more, passes_before_same, all_from_passes_before, first_stop_of_rest, first_stop_of_head}
-use Rattle.fs_lists.proofs.Items.{IsItem}
-use Rattle.fs_lists.proofs.Ranges.{range_more, range_none}
 
 -- the tests of the positions, and the test that the polygon closes
 abbrev pub closing_tests : List PlaneVector → List PolygonTest

@@ -1,18 +1,18 @@
 -- The tests of the corners of a polygon, corner by corner, and the count of rises.
 use Rattle.std.proofs.Common.{◌≡◌, ◌≢◌, ℕ, ◌+◌, ◌-◌, ◌≤◌, Bool, true, false, List, [], ◌∷◌, ◌++◌, Result, Ok, Err, length, drop, sym, ap, ◌∙◌, refl, subst, arith, unwrap_or}
-use Rattle.std.proofs.lemmas.List.{drop_more}
 use Rattle.std.specs.List.{AllByRecursion, count_by, slice_get}
 use Rattle.std.specs.declared.cmp.Ordering.{Ordering}
 use Rattle.std.specs.Bool.{◌==◌}
 use Rattle.std.specs.Ordering.{ordering_index}
 use Rattle.std.specs.declared.cmp.Ordering.TheVariants.{Less, Equal, Greater}
-use Rattle.fs_plane.specs.declared.sites.Site.{Site}
-use Rattle.fs_plane.specs.declared.corners.Corner.{Corner}
+use Rattle.fs_lists.proofs.Items.{IsItem, drop_item}
 use Rattle.fs_quadratic.specs.Ring.{Quadratic, IsPositive, sign}
 use Rattle.fs_quadratic.specs.Radicand.{IsRadicand}
+use Rattle.fs_quadratic.specs.Width.{Fits, MulFits}
 use Rattle.fs_quadratic.proofs.Signs.{sign-positive, positive_of_sign}
 use Rattle.fs_quadratic.proofs.SquareRoot.{radicand_no_square}
-use Rattle.fs_quadratic.specs.Width.{Fits, MulFits}
+use Rattle.fs_plane.specs.declared.sites.Site.{Site}
+use Rattle.fs_plane.specs.declared.corners.Corner.{Corner}
 use Rattle.fs_plane.specs.declared.sites.Place.{Place}
 use Rattle.fs_plane.specs.declared.sites.Site.TheVariants as sites
 use Rattle.fs_plane.specs.Checked.{place, IsFirstOfThree, first, second, third}
@@ -26,7 +26,6 @@ use Rattle.fs_gluing.specs.Convex.{CornerSides, corners_of, corners_from, last_s
 use Rattle.fs_gluing.specs.FirstFault.{PolygonTest, cross_fits, corner_convex, PassesIn, corner_tests}
 use Rattle.fs_gluing.specs.TestsInOrder.{PassesBefore, IsFirstStop}
 use Rattle.fs_gluing.proofs.Base.TestsInOrder.{passes_before_more, passes_before_same, first_stop_of_rest, first_stop_of_head, first_stop_of_prefix}
-use Rattle.fs_lists.proofs.Items.{IsItem, drop_item}
 use Rattle.fs_gluing.proofs.Base.Equality.{false_not_true}
 use Rattle.fs_gluing.proofs.Polygon.Boundary.{polygon_stop}
 

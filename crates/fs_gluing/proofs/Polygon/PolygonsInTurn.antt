@@ -1,12 +1,12 @@
 -- The tests of the polygons of a shape, polygon by polygon, and shapes within the limits.
-use Rattle.std.proofs.Common.{◌≡◌, ◌≤◌, ◌<◌, ◌+◌, ℕ, List, [], ◌∷◌, ◌++◌, length, drop, map, sum_by, sym, ap, ◌∙◌, refl, subst, arith, append_assoc, zero, suc, get_or}
-use Rattle.std.proofs.lemmas.List.{drop_more, drop_all, length-map, append-nil}
-use Rattle.std.proofs.lemmas.List.Sums.{sum_by-cons}
+use Rattle.std.proofs.Common.{◌≡◌, ◌≤◌, ◌+◌, ℕ, List, [], ◌∷◌, ◌++◌, length, drop, map, sum_by, sym, ap, ◌∙◌, subst, arith, append_assoc}
+use Rattle.std.proofs.lemmas.List.{drop_all, length-map, append-nil}
 use Rattle.std.specs.List.{AllByRecursion}
-use Rattle.fs_gluing.specs.Limits.{most_sides}
 use Rattle.fs_lists.proofs.Sums.{lengths-map, each_length}
 use Rattle.fs_lists.proofs.All.{All-map}
+use Rattle.fs_lists.proofs.Items.{IsItem, drop_item}
 use Rattle.fs_plane.specs.Vector.{vector_zero, PlaneVector}
+use Rattle.fs_gluing.specs.Limits.{most_sides}
 use Rattle.fs_gluing.specs.declared.shapes.Glue.{Glue}
 use Rattle.fs_gluing.specs.declared.shapes.Shape.{Shape}
 use Rattle.fs_gluing.specs.declared.faults.BuildStop.{BuildStop}
@@ -16,7 +16,6 @@ use Rattle.fs_gluing.specs.Shape.{polygons_of, IsWithinLimits}
 use Rattle.fs_gluing.specs.FirstFault.{PassesIn, polygon_tests, of_polygon, Passes, stop_of, tests_from}
 use Rattle.fs_gluing.specs.TestsInOrder.{PassesBefore, IsFirstStop}
 use Rattle.fs_gluing.proofs.Base.TestsInOrder.{passes_before_more, passes_before_same, all_from_passes_before, first_stop_of_rest, first_stop_of_prefix, first_stop_of_map}
-use Rattle.fs_lists.proofs.Items.{IsItem, drop_item}
 use Rattle.fs_gluing.proofs.Polygon.Boundary.{polygon_stop}
 
 -- the first i polygons pass, and these are the positions of their corners

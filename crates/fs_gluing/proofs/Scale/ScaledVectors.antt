@@ -1,20 +1,20 @@
 -- The vectors of a scaled shape over the common denominator are the unscaled ones.
-use Rattle.std.proofs.Common.{◌≡◌, ℕ, zero, suc, ℤ, pos, ◌+◌, ◌*◌, ◌/◌, ◌*ℤ◌, Option, Some, None, List, [], ◌∷◌, map, sym, ap, ◌∙◌, refl, subst, arith}
+use Rattle.std.proofs.Common.{◌≡◌, ℕ, zero, suc, ℤ, pos, ◌+◌, ◌*◌, ◌/◌, ◌*ℤ◌, Some, List, [], ◌∷◌, map, sym, ap, ◌∙◌, refl, subst, arith}
 use Rattle.std.proofs.Math.Nat.{dvd-mul_left, dvd-mul_right, mul-div_cancel'}
 use Rattle.std.proofs.lemmas.Nat.Gcd.{dvd_trans}
 use Rattle.std.proofs.lemmas.Option.{same_Some, slice_get-map}
 use Rattle.std.specs.Int.{◌∣◌}
 use Rattle.std.specs.Option.{option_map, option_and_then}
 use Rattle.std.specs.List.{AllByRecursion, slice_get}
-use Rattle.fs_plane.specs.Vector.{PlaneVector}
 use Rattle.fs_lists.proofs.Items.{inner_item-map}
+use Rattle.fs_lists.proofs.All.{All-prefix, All-suffix}
 use Rattle.fs_ring.proofs.Integers.{integer_ring}
 use Rattle.fs_ring.proofs.Solver.{identity, ◌⊗◌, ◌≐◌}
-use Rattle.fs_lists.proofs.All.{All-prefix, All-suffix}
 use Rattle.fs_quadratic.proofs.Laws.{quadratic_eq}
 use Rattle.fs_fraction.specs.Divisor.{gcd}
 use Rattle.fs_fraction.specs.Fraction.{Fraction, HasValue, scale}
 use Rattle.fs_fraction.proofs.Divisors.{gcd-is}
+use Rattle.fs_plane.specs.Vector.{PlaneVector}
 use Rattle.fs_plane.specs.declared.corners.Corner.{Corner}
 use Rattle.fs_gluing.specs.declared.shapes.Point.{Point}
 use Rattle.fs_gluing.specs.declared.shapes.Shape.{Shape}

@@ -1,13 +1,13 @@
 -- The tests of scaling, side by side and polygon by polygon.
 use Rattle.std.proofs.Common.{◌≡◌, ℕ, ℤ, pos, ◌+◌, ◌/◌, ◌*ℤ◌, ◌<◌, ◌^◌, List, [], ◌∷◌, ◌++◌, drop, map, sym, ap, ◌∙◌, refl, subst, append_assoc, arith, to_z, of_z}
 use Rattle.std.proofs.lemmas.Int.{ints}
-use Rattle.std.proofs.lemmas.List.{drop_more}
 use Rattle.std.proofs.Math.Nat.{div-le_self}
 use Rattle.std.specs.Int.{w128}
 use Rattle.std.specs.List.{AllByRecursion}
-use Rattle.fs_plane.specs.Vector.{PlaneVector}
+use Rattle.fs_lists.proofs.Items.{IsItem, drop_item}
 use Rattle.fs_quadratic.specs.Width.{InWidth}
 use Rattle.fs_fraction.proofs.Inverses.{through_bits}
+use Rattle.fs_plane.specs.Vector.{PlaneVector}
 use Rattle.fs_plane.specs.declared.corners.Corner.{Corner}
 use Rattle.fs_plane.specs.declared.sites.Site.TheVariants as sites
 use Rattle.fs_gluing.specs.declared.shapes.Point.{Point}
@@ -17,19 +17,18 @@ use Rattle.fs_gluing.specs.Scaling.{NumberedSide, numbered_sides, numbered_from,
 use Rattle.fs_gluing.specs.FirstFault.{of_scaling, stop_of}
 use Rattle.fs_gluing.specs.TestsInOrder.{PassesBefore, IsFirstStop}
 use Rattle.fs_gluing.proofs.Base.TestsInOrder.{passes_before_more, passes_before_same, first_stop_of_rest, first_stop_of_head, first_stop_of_prefix}
-use Rattle.fs_lists.proofs.Items.{IsItem, drop_item}
 
 -- the stop of a test of scaling
 abbrev pub scale_stop : ScaleTest → BuildStop
 scale_stop test = stop_of (of_scaling test)
 
 -- ---- polygon i from side j on, and the polygons from i on
-pub next_side : (i : ℕ) (points : List Point) (j : ℕ) (point : Point) → IsItem points j point
+next_side : (i : ℕ) (points : List Point) (j : ℕ) (point : Point) → IsItem points j point
     → numbered_sides i j (drop j points) ≡ numbered_sides i j (point ∷ []) ++ numbered_sides i (j + 1) (drop (j + 1) points)
 next_side i points j point item = ap (numbered_sides i j) (drop_item points j point item)
 
 -- the sides from polygon i on are those of polygon i and those from polygon i + 1 on
-pub next_polygon : (polygons : List (List Point)) (i : ℕ) (points : List Point) → IsItem polygons i points
+next_polygon : (polygons : List (List Point)) (i : ℕ) (points : List Point) → IsItem polygons i points
     → numbered_from i (drop i polygons) ≡ numbered_sides i 0 points ++ numbered_from (i + 1) (drop (i + 1) polygons)
 next_polygon polygons i points item = ap (numbered_from i) (drop_item polygons i points item)
 

@@ -1,13 +1,14 @@
 -- The sum of the triangles of a surface, polygon by polygon, and that it is twice the area.
-use Rattle.std.proofs.Common.{◌≡◌, ℕ, zero, suc, ◌+◌, ◌-◌, ◌<◌, ◌≤◌, Bool, true, false, Result, Ok, Err, Option, Some, List, [], ◌∷◌, ◌++◌, length, map, drop, sym, ap, ◌∙◌, refl, subst, arith}
+use Rattle.std.proofs.Common.{◌≡◌, ℕ, ◌+◌, ◌-◌, ◌<◌, ◌≤◌, Bool, true, false, Result, Ok, Err, Some, List, [], ◌∷◌, ◌++◌, length, map, drop, sym, ap, ◌∙◌, refl, subst, arith}
 use Rattle.std.proofs.lemmas.List.{drop_all, drop_more, length-map, length-drop}
 use Rattle.std.proofs.lemmas.Option.{slice_get-map, slice_get_within, get_or_from_slice_get, IfSome_then}
 use Rattle.std.specs.Option.{IfSome, option_map}
 use Rattle.std.specs.Bool.{Decides}
 use Rattle.std.specs.Result.{IfOk}
 use Rattle.std.specs.List.{slice_get}
-use Rattle.fs_plane.specs.declared.corners.Corner.{Corner}
-use Rattle.fs_gluing.specs.Limits.{most_sides}
+use Rattle.fs_lists.proofs.Sums.{each_length}
+use Rattle.fs_lists.proofs.Items.{IsItem, drop_item, item_inside, value_holds}
+use Rattle.fs_lists.proofs.All.{All-slice_get}
 use Rattle.fs_ring.specs.Operations.{Operations}
 use Rattle.fs_ring.specs.CommutativeRing.{IsCommutativeRing}
 use Rattle.fs_ring.specs.Vector as plane
@@ -18,6 +19,7 @@ use Rattle.fs_quadratic.specs.Ring.{Quadratic, quadratic, add}
 use Rattle.fs_quadratic.specs.Width.{Fits, is_fitting}
 use Rattle.fs_quadratic.proofs.Laws.{quadratic_ring}
 use Rattle.fs_quadratic.proofs.WidthTests.{Decides-is_fitting}
+use Rattle.fs_plane.specs.declared.corners.Corner.{Corner}
 use Rattle.fs_plane.specs.declared.sites.Place.{Place}
 use Rattle.fs_plane.specs.declared.sites.Site.{Site}
 use Rattle.fs_plane.specs.declared.sites.Site.TheVariants as sites
@@ -25,14 +27,12 @@ use Rattle.fs_plane.specs.Vector.{vector_zero, cross, PlaneVector}
 use Rattle.fs_plane.specs.Checked.{◌>>=◌, checked_sum, step}
 use Rattle.fs_plane.specs.Formulas.{cross_after}
 use Rattle.fs_plane.proofs.FormulaLaws.{cross_value}
+use Rattle.fs_gluing.specs.Limits.{most_sides}
 use Rattle.fs_gluing.specs.declared.surfaces.Side.{Side}
 use Rattle.fs_gluing.specs.Area.{Triangle, triangles_from, triangles_of, all_triangles, triangles, twice_triangle, twice_areas, twice_area, add_triangle, continued, sum_after}
 use Rattle.fs_gluing.specs.Positions.{positions_from}
 use Rattle.fs_gluing.specs.Surface.{GluedPolygons, IsSurface, side_vectors}
-use Rattle.fs_lists.proofs.Sums.{each_length}
-use Rattle.fs_lists.proofs.Items.{IsItem, drop_item, item_inside, value_holds}
 use Rattle.fs_gluing.proofs.SurfaceCalls.Positions.{length-positions_from}
-use Rattle.fs_lists.proofs.All.{All-slice_get}
 
 -- ---- the sum over two lists of triangles
 
@@ -116,15 +116,6 @@ added_more d sum i positions j total next one two c is l first second e a = reco
       ∙ ap (sum_after d total) (next_triangle i j positions one two l first second)
       ∙ sum_after-ok d total next (triangle i (j - 1) one two ∷ []) (triangles_at i (j + 1 - 1) positions) (e ∙ ap (λ (k : Corner). sum_after d total (triangle k.polygon k.side one two ∷ [])) is);
 }
-
--- the next triangle has a site, and it is the site of the whole sum
-pub added_stops : (d : ℕ) (sum : Quadratic) (i : ℕ) (positions : List PlaneVector) (j : ℕ) (total : Quadratic) (site : Site) (one two : PlaneVector) (c : Corner) → c ≡ record { polygon = i; side = j - 1 } → 2 ≤ j
-    → IsItem positions (j - 1) one → IsItem positions j two → Err site ≡ sum_after d total (triangle c.polygon c.side one two ∷ []) → AddsTrianglesUpTo d sum i positions j total
-    → Err site ≡ sum_after d sum (triangles_at i 1 positions)
-added_stops d sum i positions j total site one two c is l first second e a =
-    sym (a.is
-    ∙ ap (sum_after d total) (next_triangle i j positions one two l first second)
-    ∙ sum_after-stop d total site (triangle i (j - 1) one two ∷ []) (triangles_at i (j + 1 - 1) positions) (e ∙ ap (λ (k : Corner). sum_after d total (triangle k.polygon k.side one two ∷ [])) is))
 
 -- after all positions the sum has all triangles of the polygon
 pub added_all : (d : ℕ) (sum : Quadratic) (i : ℕ) (positions : List PlaneVector) (j : ℕ) (total : Quadratic) → length positions ≤ j → AddsTrianglesUpTo d sum i positions j total

@@ -1,10 +1,10 @@
 -- The next corner round a vertex: it exists, the step to it is a permutation, and it is of the same vertex.
-use Rattle.std.proofs.Common.{◌≡◌, ℕ, zero, suc, ◌+◌, ◌-◌, ◌<◌, List, [], ◌∷◌, Option, Some, None, length, if◌then◌else◌, ◌==◌, sym, ap, ◌∙◌, refl, subst, arith}
+use Rattle.std.proofs.Common.{◌≡◌, ℕ, suc, ◌+◌, ◌-◌, ◌<◌, List, Option, Some, None, length, if◌then◌else◌, ◌==◌, sym, ap, ◌∙◌, refl, subst, arith}
 use Rattle.std.proofs.lemmas.Bool.Decides.{nat_tests}
 use Rattle.std.proofs.lemmas.Option.{slice_get_within}
 use Rattle.std.specs.Option.{IsSome, IfSome, option_and_then}
 use Rattle.std.specs.List.{slice_get}
-use Rattle.fs_lists.proofs.Items.{HasValue, value_of, some_of_inside}
+use Rattle.fs_lists.proofs.Items.{value_of, some_of_inside}
 use Rattle.fs_plane.specs.declared.corners.Corner.{Corner}
 use Rattle.fs_plane.specs.Vector.{vector_neg}
 use Rattle.fs_gluing.specs.declared.surfaces.Side.{Side}

@@ -1,7 +1,7 @@
 -- The triangles are added one after another.
 use Rattle.std.proofs.Common.{◌-◌, arith}
-use Rattle.fs_gluing.proofs.SurfaceCalls.AreaSums.{added_more, added_all}
 use Rattle.fs_lists.proofs.Items.{IsItem}
+use Rattle.fs_gluing.proofs.SurfaceCalls.AreaSums.{added_more, added_all}
 use Rattle.fs_gluing.proofs.areas.add_triangles.Goals as goal
 
 pub loop-j-preserved : goal.loop-j-preserved

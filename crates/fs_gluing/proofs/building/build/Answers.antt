@@ -1,14 +1,14 @@
 -- The steps of `build` in their order: each stops with the first failed test of the shape, or passes.
-use Rattle.std.proofs.Common.{◌≡◌, ◌⊎◌, List, [], ap, ◌∙◌, subst}
+use Rattle.std.proofs.Common.{◌≡◌, ◌⊎◌, List, [], subst}
 use Rattle.std.specs.BTreeMap.{get}
 use Rattle.std.specs.List.{AllByRecursion}
-use Rattle.fs_gluing.proofs.Scale.ScalingInTurn.{den_passed}
 use Rattle.fs_lists.proofs.Results.{at_exit}
 use Rattle.fs_gluing.specs.declared.shapes.Glue.{Glue}
 use Rattle.fs_gluing.specs.declared.faults.BuildStop.TheVariants.{NoMemory}
 use Rattle.fs_gluing.specs.TestsInOrder.{IsFirstStop}
 use Rattle.fs_gluing.specs.FirstFault.{IsBuildResult, PassesLine, line_tests}
 use Rattle.fs_gluing.specs.Gluing.{corner_cmp, ArePartners}
+use Rattle.fs_gluing.proofs.Scale.ScalingInTurn.{den_passed}
 use Rattle.fs_gluing.proofs.Gluing.GluedPolygons.{paired_by}
 use Rattle.fs_gluing.proofs.Gluing.GlueLines.{line_stop}
 use Rattle.fs_gluing.proofs.Outcome.BuildResult.{ScaledShape, GluedShape, scaled_shape, outcome_at_scaling, outcome_at_polygons, outcome_at_lines, outcome_at_sides, outcome_at_reaching, outcome_of_all_passed, short, some_rows, few_rows, rows_glued, rows_surface, rows_positions, first_failure_of_outcome}

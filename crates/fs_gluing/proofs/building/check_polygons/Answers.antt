@@ -1,13 +1,13 @@
 -- The polygons are tested one after another, up to the first that fails.
 use Rattle.std.proofs.Common.{◌≡◌, ◌⊎◌, inl, inr, List, arith, ap, length}
 use Rattle.std.specs.Result.{IfErr}
+use Rattle.fs_lists.proofs.Results.{at_exit}
+use Rattle.fs_lists.proofs.Items.{item_read}
 use Rattle.fs_gluing.specs.declared.shapes.Glue.{Glue}
 use Rattle.fs_gluing.specs.declared.faults.BuildStop.{BuildStop}
 use Rattle.fs_gluing.specs.declared.faults.BuildStop.TheVariants.{NoMemory}
 use Rattle.fs_gluing.specs.FirstFault.{Passes, stop_of, tests_from}
 use Rattle.fs_gluing.specs.TestsInOrder.{IsFirstStop}
-use Rattle.fs_lists.proofs.Results.{at_exit}
-use Rattle.fs_lists.proofs.Items.{item_read}
 use Rattle.fs_gluing.proofs.Polygon.PolygonsInTurn.{passed_more, passed_fails, passed_all}
 use Rattle.fs_gluing.proofs.building.check_polygons.Goals as goal
 

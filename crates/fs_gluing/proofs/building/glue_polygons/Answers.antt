@@ -3,14 +3,14 @@ use Rattle.std.proofs.Common.{◌≡◌, ◌⊎◌, inl, inr, sym, subst}
 use Rattle.std.specs.BTreeMap.{get}
 use Rattle.std.specs.Option.{IsSome}
 use Rattle.std.specs.Result.{IfErr}
+use Rattle.fs_lists.proofs.Results.{at_exit}
+use Rattle.fs_lists.proofs.Items.{item_read}
 use Rattle.fs_gluing.specs.declared.faults.BuildStop.{BuildStop}
 use Rattle.fs_gluing.specs.declared.faults.BuildStop.TheVariants.{NoMemory}
 use Rattle.fs_gluing.specs.Polygons.{all_sides}
 use Rattle.fs_gluing.specs.FirstFault.{stop_of, side_glued}
 use Rattle.fs_gluing.specs.TestsInOrder.{IsFirstStop}
 use Rattle.fs_gluing.specs.Gluing.{corner_cmp}
-use Rattle.fs_lists.proofs.Results.{at_exit}
-use Rattle.fs_lists.proofs.Items.{item_read}
 use Rattle.fs_gluing.proofs.Gluing.GluedSides.{GluesPolygonsUpTo, rows_more, rows_fail}
 use Rattle.fs_gluing.proofs.building.glue_polygons.Goals as goal
 

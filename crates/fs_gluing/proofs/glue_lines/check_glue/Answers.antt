@@ -1,11 +1,15 @@
 -- A glue line passes its three tests, or fails the first of them that it can fail.
-use Rattle.std.proofs.Common.{sym, ◌∙◌}
+use Rattle.std.proofs.Common.{sym, ◌∙◌, List}
 use Rattle.std.specs.BTreeMap.{get}
-use Rattle.fs_gluing.specs.Gluing.{corner_cmp}
-use Rattle.fs_gluing.proofs.Base.Equality.{one_corner, two_corners, differ_from_ne, same_from_ne}
-use Rattle.fs_gluing.proofs.Gluing.GlueLines.{sides_exist_by, absent_one, absent_two, absent_fails, twice_fails, opposite_fails, line_passes, glued_once_by, one_glued_before, two_glued_before, are_opposite, vectors_opposite}
 use Rattle.fs_lists.proofs.Items.{not_some}
+use Rattle.fs_gluing.specs.FirstFault.{PassesLine, glued_once}
+use Rattle.fs_gluing.specs.Polygons.{HasSide}
+use Rattle.fs_gluing.specs.declared.shapes.Glue.{Glue}
+use Rattle.fs_gluing.specs.Gluing.{corner_cmp, ArePartners}
+use Rattle.fs_gluing.proofs.Base.Equality.{same_from_eq, differ_from_eq, differ_from_ne, same_from_ne}
+use Rattle.fs_gluing.proofs.Gluing.GlueLines.{sides_exist_by, absent_one, absent_two, absent_fails, twice_fails, opposite_fails, line_passes, glued_once_by, one_glued_before, two_glued_before, are_opposite, vectors_opposite}
 use Rattle.fs_gluing.proofs.glue_lines.check_glue.Goals as goal
+use Rattle.fs_gluing.proofs.glue_lines.check_glue.Goals.{After-ne}
 use Rattle.fs_gluing.proofs.glue_lines.check_glue.Goals.{then-eq-via-then-eq, then-eq-via-else-eq+then-contains_key, then-eq-via-else-eq+else-contains_key+then-contains_key-2}
 
 pub returns-in_default-clause-failed : goal.returns-in_default-clause-failed
@@ -20,32 +24,34 @@ pub returns-then-eq-clause-failed : goal.returns-then-eq-clause-failed
 returns-then-eq-clause-failed c = λ earlier a.
     let present = sides_exist_by c.args.polygons.now c.args.glue.now c.in-Some-Some.one c.in-Some-Some.two (sym c.vector_at.ensures ∙ c.in-Some-Some.is-0) (sym c.vector_at-2.ensures ∙ c.in-Some-Some.is-1) in
     twice_fails c.args.polygons.now earlier c.args.glue.now present (elim c.then-eq.branch [
-      | then-eq-via-then-eq w ↦ λ single. single.0 (one_corner c.args.glue.now.one c.args.glue.now.two c.eq.result c.eq.ensures w.if-eq.true)
+      | then-eq-via-then-eq w ↦ λ single. single.0 (same_from_eq c.args.glue.now.one c.args.glue.now.two c.eq.result c.eq.ensures w.if-eq.true)
       | then-eq-via-else-eq+then-contains_key w ↦
           one_glued_before c.args.polygons.now earlier c.args.glue.now (get corner_cmp c.args.partners.now) a (sym w.contains_key.ensures ∙ w.if-contains_key.true)
       | then-eq-via-else-eq+else-contains_key+then-contains_key-2 w ↦
           two_glued_before c.args.polygons.now earlier c.args.glue.now (get corner_cmp c.args.partners.now) a (sym w.contains_key-else-contains_key.ensures ∙ w.if-contains_key-2.true)
     ])
 
+-- both sides exist
+present : (c : After-ne) → HasSide c.args.polygons.now c.args.glue.now.one × HasSide c.args.polygons.now c.args.glue.now.two
+present c =
+    sides_exist_by c.args.polygons.now c.args.glue.now c.in-Some-Some.one c.in-Some-Some.two (sym c.vector_at.ensures ∙ c.in-Some-Some.is-0) (sym c.vector_at-2.ensures ∙ c.in-Some-Some.is-1)
+
+-- and neither is on an earlier line
+once : (c : After-ne) (earlier : List Glue) → ArePartners earlier (get corner_cmp c.args.partners.now) → PassesLine c.args.polygons.now (glued_once earlier c.args.glue.now)
+once c earlier a =
+    glued_once_by c.args.polygons.now earlier c.args.glue.now (get corner_cmp c.args.partners.now) a (differ_from_eq c.args.glue.now.one c.args.glue.now.two c.eq.result c.eq.ensures c.if-eq.false)
+    (not_some _ (sym c.contains_key.ensures ∙ c.if-contains_key.false)) (not_some _ (sym c.contains_key-else-contains_key.ensures ∙ c.if-contains_key-2.false))
+
 pub returns-then-ne-clause-failed : goal.returns-then-ne-clause-failed
 returns-then-ne-clause-failed c = λ earlier a.
-    let is_one = sym c.vector_at.ensures ∙ c.in-Some-Some.is-0 in
-    let is_two = sym c.vector_at-2.ensures ∙ c.in-Some-Some.is-1 in
-    let present = sides_exist_by c.args.polygons.now c.args.glue.now c.in-Some-Some.one c.in-Some-Some.two is_one is_two in
-    let single = glued_once_by c.args.polygons.now earlier c.args.glue.now (get corner_cmp c.args.partners.now) a
-    (two_corners c.args.glue.now.one c.args.glue.now.two c.eq.result c.eq.ensures c.if-eq.false)
-    (not_some _ (sym c.contains_key.ensures ∙ c.if-contains_key.false)) (not_some _ (sym c.contains_key-else-contains_key.ensures ∙ c.if-contains_key-2.false)) in
+    let at = (goal.at.returns-then-ne-clause-failed c).After-ne in
     let apart = differ_from_ne c.in-Some-Some.two c.neg.result c.ne.result c.ne.ensures c.if-ne.true in
-    opposite_fails c.args.polygons.now earlier c.args.glue.now present single
-    (λ h. apart (vectors_opposite _ _ c.in-Some-Some.one c.in-Some-Some.two is_one is_two h ∙ sym c.neg.ensures))
+    opposite_fails c.args.polygons.now earlier c.args.glue.now (present at) (once at earlier a)
+    (λ h. apart (vectors_opposite _ _ c.in-Some-Some.one c.in-Some-Some.two (sym c.vector_at.ensures ∙ c.in-Some-Some.is-0) (sym c.vector_at-2.ensures ∙ c.in-Some-Some.is-1) h ∙ sym c.neg.ensures))
 
 pub returns-clause-passed : goal.returns-clause-passed
 returns-clause-passed c = λ earlier a.
-    let is_one = sym c.vector_at.ensures ∙ c.in-Some-Some.is-0 in
-    let is_two = sym c.vector_at-2.ensures ∙ c.in-Some-Some.is-1 in
-    let present = sides_exist_by c.args.polygons.now c.args.glue.now c.in-Some-Some.one c.in-Some-Some.two is_one is_two in
-    let single = glued_once_by c.args.polygons.now earlier c.args.glue.now (get corner_cmp c.args.partners.now) a
-    (two_corners c.args.glue.now.one c.args.glue.now.two c.eq.result c.eq.ensures c.if-eq.false)
-    (not_some _ (sym c.contains_key.ensures ∙ c.if-contains_key.false)) (not_some _ (sym c.contains_key-else-contains_key.ensures ∙ c.if-contains_key-2.false)) in
+    let at = (goal.at.returns-clause-passed c).After-ne in
     let same = same_from_ne c.in-Some-Some.two c.neg.result c.ne.result c.ne.ensures c.if-ne.false in
-    line_passes c.args.polygons.now earlier c.args.glue.now present single (are_opposite _ _ c.in-Some-Some.one c.in-Some-Some.two is_one is_two (same ∙ c.neg.ensures))
+    line_passes c.args.polygons.now earlier c.args.glue.now (present at) (once at earlier a)
+    (are_opposite _ _ c.in-Some-Some.one c.in-Some-Some.two (sym c.vector_at.ensures ∙ c.in-Some-Some.is-0) (sym c.vector_at-2.ensures ∙ c.in-Some-Some.is-1) (same ∙ c.neg.ensures))

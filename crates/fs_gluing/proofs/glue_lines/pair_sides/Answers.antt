@@ -2,13 +2,13 @@
 use Rattle.std.proofs.Common.{◌≡◌, ◌⊎◌, inr, [], take, refl}
 use Rattle.std.specs.BTreeMap.{get}
 use Rattle.std.specs.Result.{IfErr}
+use Rattle.fs_lists.proofs.Results.{at_exit}
+use Rattle.fs_lists.proofs.Items.{item_of}
 use Rattle.fs_gluing.specs.declared.faults.BuildStop.{BuildStop}
 use Rattle.fs_gluing.specs.declared.faults.BuildStop.TheVariants.{NoMemory}
 use Rattle.fs_gluing.specs.FirstFault.{PassesLine, line_tests}
 use Rattle.fs_gluing.specs.TestsInOrder.{IsFirstStop}
 use Rattle.fs_gluing.specs.Gluing.{corner_cmp}
-use Rattle.fs_lists.proofs.Results.{at_exit}
-use Rattle.fs_lists.proofs.Items.{item_of}
 use Rattle.fs_gluing.proofs.Gluing.GlueLines.{no_glue, line_stop, lines_more, line_fails}
 use Rattle.fs_gluing.proofs.glue_lines.pair_sides.Goals as goal
 

@@ -1,10 +1,10 @@
 -- The corners are tested one after another, up to the first that fails.
 use Rattle.std.specs.Result.{IfErr}
+use Rattle.fs_lists.proofs.Results.{at_exit}
+use Rattle.fs_lists.proofs.Items.{IsItem}
 use Rattle.fs_gluing.specs.FirstFault.{PassesIn, corner_tests}
 use Rattle.fs_gluing.specs.Convex.{corners_of}
 use Rattle.fs_gluing.specs.TestsInOrder.{IsFirstStop}
-use Rattle.fs_lists.proofs.Results.{at_exit}
-use Rattle.fs_lists.proofs.Items.{IsItem}
 use Rattle.fs_gluing.proofs.Polygon.Boundary.{polygon_stop}
 use Rattle.fs_gluing.proofs.Polygon.ConvexCorners.{corners_more, corner_fails}
 use Rattle.fs_gluing.proofs.polygons.check_corners.Goals as goal

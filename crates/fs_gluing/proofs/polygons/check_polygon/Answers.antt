@@ -1,11 +1,11 @@
 -- The tests of a polygon in their order, up to the first that fails.
 use Rattle.std.proofs.Common.{◌≡◌, ◌⊎◌, inl, inr, sym, ◌∙◌}
 use Rattle.std.specs.Result.{IfErr}
+use Rattle.fs_lists.proofs.Results.{at_exit}
 use Rattle.fs_gluing.specs.declared.faults.BuildStop.{BuildStop}
 use Rattle.fs_gluing.specs.declared.faults.BuildStop.TheVariants.{NoMemory}
 use Rattle.fs_gluing.specs.FirstFault.{PassesIn, polygon_tests}
 use Rattle.fs_gluing.specs.TestsInOrder.{IsFirstStop}
-use Rattle.fs_lists.proofs.Results.{at_exit}
 use Rattle.fs_gluing.proofs.Polygon.Boundary.{polygon_stop}
 use Rattle.fs_gluing.proofs.Polygon.PolygonTests.{few_sides, positions_fail, corners_fail, turning_number_fails, polygon_passes}
 use Rattle.fs_gluing.proofs.polygons.check_polygon.Goals as goal

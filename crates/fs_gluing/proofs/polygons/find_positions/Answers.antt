@@ -1,7 +1,7 @@
 -- The positions are found side by side, up to the first that overflows; then the polygon closes or not.
 use Rattle.std.proofs.Common.{inr, arith}
-use Rattle.fs_plane.specs.Vector.{vector_zero}
 use Rattle.fs_lists.proofs.Items.{IsItem}
+use Rattle.fs_plane.specs.Vector.{vector_zero}
 use Rattle.fs_gluing.proofs.Base.Equality.{differ_from_ne, same_from_ne}
 use Rattle.fs_gluing.proofs.Polygon.Boundary.{positions_none, positions_more, x_fails, y_fails, closes, closes_fails, positions_complete}
 use Rattle.fs_gluing.proofs.polygons.find_positions.Goals as goal

@@ -1,9 +1,9 @@
 -- The polygons come one after another, up to the first whose common denominator overflows.
 use Rattle.std.specs.Result.{IfErr}
-use Rattle.fs_gluing.specs.Scaling.{PassesScale, common_tests, all_numbered}
-use Rattle.fs_gluing.specs.TestsInOrder.{IsFirstStop}
 use Rattle.fs_lists.proofs.Results.{at_exit}
 use Rattle.fs_lists.proofs.Items.{item_read}
+use Rattle.fs_gluing.specs.Scaling.{PassesScale, common_tests, all_numbered}
+use Rattle.fs_gluing.specs.TestsInOrder.{IsFirstStop}
 use Rattle.fs_gluing.proofs.Scale.ScalingInTurn.{scale_stop, polygons_more, polygons_fail}
 use Rattle.fs_gluing.proofs.scaling.common_den.Goals as goal
 

@@ -1,9 +1,9 @@
 -- The sides come one after another, up to the first whose common multiple overflows.
 use Rattle.std.specs.Result.{IfErr}
-use Rattle.fs_gluing.specs.Scaling.{PassesScale, common_tests, numbered_sides}
-use Rattle.fs_gluing.specs.TestsInOrder.{IsFirstStop}
 use Rattle.fs_lists.proofs.Results.{at_exit}
 use Rattle.fs_lists.proofs.Items.{IsItem}
+use Rattle.fs_gluing.specs.Scaling.{PassesScale, common_tests, numbered_sides}
+use Rattle.fs_gluing.specs.TestsInOrder.{IsFirstStop}
 use Rattle.fs_gluing.proofs.Scale.ScalingInTurn.{scale_stop, row_more, row_fails}
 use Rattle.fs_gluing.proofs.scaling.common_of_polygon.Goals as goal
 

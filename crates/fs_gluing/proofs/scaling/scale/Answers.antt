@@ -1,11 +1,11 @@
 -- The common denominator is found, then the polygons are scaled.
 use Rattle.std.proofs.Common.{◌≡◌, ◌⊎◌, inl, inr}
 use Rattle.std.specs.Result.{IfErr}
+use Rattle.fs_lists.proofs.Results.{at_exit}
 use Rattle.fs_gluing.specs.declared.faults.BuildStop.{BuildStop}
 use Rattle.fs_gluing.specs.declared.faults.BuildStop.TheVariants.{NoMemory}
 use Rattle.fs_gluing.specs.Scaling.{PassesScale, scale_tests}
 use Rattle.fs_gluing.specs.TestsInOrder.{IsFirstStop}
-use Rattle.fs_lists.proofs.Results.{at_exit}
 use Rattle.fs_gluing.proofs.Polygon.PolygonsInTurn.{short_rows}
 use Rattle.fs_gluing.proofs.Scale.ScalingInTurn.{scale_stop, parts_of_shape_fail}
 use Rattle.fs_gluing.proofs.scaling.scale.Goals as goal

@@ -1,12 +1,12 @@
 -- The sides are scaled one after another, up to the first that overflows.
 use Rattle.std.proofs.Common.{◌≡◌, ◌⊎◌, inr}
 use Rattle.std.specs.Result.{IfErr}
+use Rattle.fs_lists.proofs.Results.{at_exit}
+use Rattle.fs_lists.proofs.Items.{IsItem}
 use Rattle.fs_gluing.specs.declared.faults.BuildStop.{BuildStop}
 use Rattle.fs_gluing.specs.declared.faults.BuildStop.TheVariants.{NoMemory}
 use Rattle.fs_gluing.specs.Scaling.{PassesScale, part_tests, numbered_sides}
 use Rattle.fs_gluing.specs.TestsInOrder.{IsFirstStop}
-use Rattle.fs_lists.proofs.Results.{at_exit}
-use Rattle.fs_lists.proofs.Items.{IsItem}
 use Rattle.fs_gluing.proofs.Scale.ScalingInTurn.{scale_stop, row_scaled_more, row_scaled_fails}
 use Rattle.fs_gluing.proofs.scaling.scale_polygon.Goals as goal
 

@@ -1,12 +1,12 @@
 -- The polygons are scaled one after another, up to the first that overflows.
 use Rattle.std.proofs.Common.{◌≡◌, ◌⊎◌, inl, inr}
 use Rattle.std.specs.Result.{IfErr}
+use Rattle.fs_lists.proofs.Results.{at_exit}
+use Rattle.fs_lists.proofs.Items.{item_read}
 use Rattle.fs_gluing.specs.declared.faults.BuildStop.{BuildStop}
 use Rattle.fs_gluing.specs.declared.faults.BuildStop.TheVariants.{NoMemory}
 use Rattle.fs_gluing.specs.Scaling.{PassesScale, part_tests, all_numbered}
 use Rattle.fs_gluing.specs.TestsInOrder.{IsFirstStop}
-use Rattle.fs_lists.proofs.Results.{at_exit}
-use Rattle.fs_lists.proofs.Items.{item_read}
 use Rattle.fs_gluing.proofs.Scale.ScalingInTurn.{scale_stop, polygons_scaled_more, polygons_scaled_fail}
 use Rattle.fs_gluing.proofs.scaling.scale_polygons.Goals as goal
 

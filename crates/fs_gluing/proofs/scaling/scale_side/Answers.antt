@@ -1,10 +1,10 @@
 -- x is scaled, then y; the first part that overflows gives the site.
 use Rattle.std.specs.Result.{IfErr}
 use Rattle.std.proofs.Common.{[], ◌∷◌}
+use Rattle.fs_lists.proofs.Results.{at_exit}
 use Rattle.fs_gluing.specs.Scaling.{PassesScale, part_tests, numbered_sides}
 use Rattle.fs_gluing.specs.TestsInOrder.{IsFirstStop}
 use Rattle.fs_gluing.proofs.Base.TestsInOrder.{first_stop_of_prefix}
-use Rattle.fs_lists.proofs.Results.{at_exit}
 use Rattle.fs_gluing.proofs.Scale.ScalingInTurn.{scale_stop, y_parts_fail}
 use Rattle.fs_gluing.proofs.scaling.scale_side.Goals as goal
 

@@ -1,9 +1,9 @@
 -- The polygons are added one after another, and the sum is twice the area.
 use Rattle.std.proofs.Common.{◌≡◌, Ok, arith}
+use Rattle.fs_lists.proofs.Results.{at_exit}
 use Rattle.fs_quadratic.specs.Ring.{zero}
 use Rattle.fs_gluing.specs.Area.{triangles, sum_after}
 use Rattle.fs_gluing.proofs.SurfaceCalls.AreaSums.{summed_more, summed_stops, summed_all, area_of_sum}
-use Rattle.fs_lists.proofs.Results.{at_exit}
 use Rattle.fs_gluing.proofs.surfaces.Surface.twice_area.Goals as goal
 
 pub returns-in_err-sum-clause-formula : goal.returns-in_err-sum-clause-formula
