@@ -14,11 +14,7 @@ tails_equal x y xs ys e = cc
 pub cons_equal : {X : Type 0} (x y : X) (xs ys : List X) → x ≡ y → xs ≡ ys → x ∷ xs ≡ y ∷ ys
 cons_equal x y xs ys e f = λ i. e i ∷ f i
 
--- a list with an item isn't empty
-pub cons_not_nil : {X : Type 0} (x : X) (xs : List X) → x ∷ xs ≢ []
-cons_not_nil x xs e = cc
-
--- nor is one with an item in its middle
+-- a list with an item in its middle isn't empty
 pub nil_not_around : {X : Type 0} (x : X) (xs ys : List X) → [] ≡ xs ++ x ∷ ys → ⊥
 nil_not_around x [] ys e = cc
 nil_not_around x (z ∷ xs) ys e = cc

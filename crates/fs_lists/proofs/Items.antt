@@ -2,9 +2,8 @@
 use Rattle.std.proofs.Common.{◌≡◌, false, is_some, ℕ, zero, suc, ◌+◌, ◌<◌, Option, Some, None, List, [], ◌∷◌, length, map, get_or, set, drop, refl, sym, ap, ◌∙◌, subst, arith}
 use Rattle.std.proofs.lemmas.List.{get_or_default, drop_more}
 use Rattle.std.proofs.lemmas.Option.{same_Some, slice_get_within, slice_get-map}
-use Rattle.std.specs.List.{AllByRecursion, slice_get}
+use Rattle.std.specs.List.{slice_get}
 use Rattle.std.specs.Option.{IsSome, IfSome, option_and_then, option_map}
-use Rattle.fs_lists.proofs.All.{All-get_or}
 
 -- ---- by get_or, as a loop over a slice reads it
 
@@ -24,10 +23,6 @@ pub item_read : {X : Type 0} (xs ys : List X) (i : ℕ) (x y : X) → xs ≡ ys 
 item_read xs ys i x y e l is same =
     let inside : i < length ys = subst (λ zs. i < length zs) e l in
     record { inside = inside; is = same ∙ is ∙ ap (λ zs. get_or zs i x) e ∙ get_or_default ys i x y inside }
-
--- what holds of each item holds of the one at an index
-pub All-item : {X : Type 0} (P : X → Type 0) (xs : List X) (i : ℕ) (x : X) → AllByRecursion P xs → IsItem xs i x → P x
-All-item P xs i x a item = subst P (sym item.is) (All-get_or P xs i x a item.inside)
 
 -- the rest of a list from an index on is the item there and the rest after it
 pub drop_item : {X : Type 0} (xs : List X) (i : ℕ) (x : X) → IsItem xs i x → drop i xs ≡ x ∷ drop (i + 1) xs

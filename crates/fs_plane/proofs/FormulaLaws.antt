@@ -1,4 +1,4 @@
--- Laws of the formulas: they give the values of the plane exactly where all numbers fit, and else the first place where one doesn't.
+-- Laws of the formulas: they give the values of the plane exactly where all numbers fit, and else the first place where one doesn't. A library for crates to come.
 use Rattle.std.proofs.Common.{◌≡◌, ℕ, Result, Ok, Err, IfOk, ◌↔◌, sym}
 use Rattle.std.proofs.lemmas.Result.{OkIff-at_ok, Ok-from_Ok_iff}
 use Rattle.std.specs.Result.{OkIff}
