@@ -5,8 +5,8 @@ use fs_quadratic::{Elem, Field, Op};
 use std::cmp::Ordering;
 use std::process::Abort;
 
-// d, p above 0, q below 0, and the sign of p + q·√d: mostly convergents of √d and what is beside them.
-static NEAR_TIES: [(u16, i128, i128, Ordering); 44] = [
+// d, p above 0, q below 0, and the sign of p + q·√d: mostly convergents of √d and their neighbours.
+static NEAR_ZERO: [(u16, i128, i128, Ordering); 44] = [
     (2, 3, -2, Ordering::Greater),
     (
         2,
@@ -704,8 +704,8 @@ fn expect_order(rt: &impl Abort, d: u16, x: Pair, y: Pair, expected: Ordering) {
 }
 
 #[test]
-fn signs_near_a_tie(rt: HostRuntime) {
-    for (d, p, q, sign) in NEAR_TIES.iter() {
+fn signs_near_zero(rt: HostRuntime) {
+    for (d, p, q, sign) in NEAR_ZERO.iter() {
         let field = field(&rt, *d);
         let x = elem(&rt, (*p, *q));
         let y = x.neg();

@@ -383,7 +383,7 @@ static SIZES: [(Vector, bool, bool); 8] = [
 ];
 
 // A vector over the field of √2, whether it is upper, and whether it is raised.
-static HALVES: [(Vector, bool, bool); 7] = [
+static UPPER_AND_RAISED: [(Vector, bool, bool); 7] = [
     (((0, 0), (0, 0)), false, false),
     (((1, 0), (0, 0)), true, false),
     (((-1, 0), (0, 0)), false, true),
@@ -451,7 +451,7 @@ fn small_vectors(rt: HostRuntime) {
 #[test]
 fn upper_and_raised_vectors(rt: HostRuntime) {
     let field = field(&rt, 2);
-    for (parts, upper, raised) in HALVES.iter() {
+    for (parts, upper, raised) in UPPER_AND_RAISED.iter() {
         let v = vector(&rt, *parts);
         assert_eq!(rt;
             (v.is_upper(field), v.is_raised(field)),
