@@ -3,7 +3,7 @@ use fs_plane::{Corner, Site};
 use std::cmp::Ordering;
 
 // The polygons and sides of two corners, and how the corners compare.
-const ORDERS: [((u16, u16), (u16, u16), Ordering); 6] = [
+static ORDERS: [((u16, u16), (u16, u16), Ordering); 6] = [
     ((3, 5), (3, 5), Ordering::Equal),
     ((3, 4), (3, 5), Ordering::Less),
     ((3, 5), (3, 4), Ordering::Greater),
@@ -14,9 +14,9 @@ const ORDERS: [((u16, u16), (u16, u16), Ordering); 6] = [
 
 #[test]
 fn order_by_polygon_then_side(rt: HostRuntime) {
-    for (a, b, expected) in ORDERS {
-        let (a, b) = (Corner::new(a.0, a.1), Corner::new(b.0, b.1));
-        assert_eq!(rt; a.cmp(&b), expected, "{a:?} and {b:?}");
+    for (a, b, expected) in ORDERS.iter() {
+        let order = Corner::new(a.0, a.1).cmp(&Corner::new(b.0, b.1));
+        assert_eq!(rt; order, *expected, "{a:?} and {b:?}");
     }
 }
 

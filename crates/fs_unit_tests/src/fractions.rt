@@ -7,7 +7,7 @@ use fs_quadratic::Elem;
 use std::process::Abort;
 
 // p, q and a denominator, and the same in lowest terms.
-const LOWEST: [(Parts, Parts); 6] = [
+static LOWEST: [(Parts, Parts); 6] = [
     ((2, 4, 6), (1, 2, 3)),
     ((0, 0, 7), (0, 0, 1)),
     ((-3, 6, 4), (-3, 6, 4)),
@@ -17,7 +17,7 @@ const LOWEST: [(Parts, Parts); 6] = [
 ];
 
 // Two fractions as p, q and the denominator, and their sum where it fits.
-const SUMS: [(Parts, Parts, Option<Parts>); 19] = [
+static SUMS: [(Parts, Parts, Option<Parts>); 19] = [
     ((1, 1, 2), (1, -1, 3), Some((5, 1, 6))),
     ((1, 0, 6), (1, 0, 3), Some((1, 0, 2))),
     (
@@ -192,7 +192,7 @@ const SUMS: [(Parts, Parts, Option<Parts>); 19] = [
 ];
 
 // d, two fractions, and their product where it fits.
-const PRODUCTS: [(u16, Parts, Parts, Option<Parts>); 27] = [
+static PRODUCTS: [(u16, Parts, Parts, Option<Parts>); 27] = [
     (2, (1, 1, 2), (2, -2, 3), Some((-1, 0, 3))),
     (
         3,
@@ -417,7 +417,7 @@ const PRODUCTS: [(u16, Parts, Parts, Option<Parts>); 27] = [
 ];
 
 // d, a fraction other than 0, and its inverse where it fits.
-const INVERSES: [(u16, Parts, Option<Parts>); 20] = [
+static INVERSES: [(u16, Parts, Option<Parts>); 20] = [
     (2, (1, 1, 2), Some((-2, 2, 1))),
     (3, (-3, 0, 5), Some((-5, 0, 3))),
     (
@@ -529,7 +529,7 @@ const INVERSES: [(u16, Parts, Option<Parts>); 20] = [
 ];
 
 // d, two fractions, and their quotient where it fits.
-const QUOTIENTS: [(u16, Parts, Parts, Option<Parts>); 7] = [
+static QUOTIENTS: [(u16, Parts, Parts, Option<Parts>); 7] = [
     (2, (1, 0, 1), (0, 1, 1), Some((0, 1, 2))),
     (5, (3, 1, 2), (3, 1, 2), Some((1, 0, 1))),
     (
@@ -559,65 +559,77 @@ const QUOTIENTS: [(u16, Parts, Parts, Option<Parts>); 7] = [
     ),
 ];
 
-// The fraction of these parts, where they are given.
-fn expected(rt: &impl Abort, parts: Option<Parts>) -> Result<Frac, FracStop> {
-    match parts {
+// That what a call returned is the fraction of these parts, or an overflow where none are given;
+// `of` says what it was called with.
+fn expect(
+    rt: &impl Abort,
+    returned: Result<Frac, FracStop>,
+    parts: Option<Parts>,
+    of: (u16, Parts, Parts),
+) {
+    let expected = match parts {
         Some(parts) => Ok(frac(rt, parts)),
         None => Err(FracStop::Overflow),
-    }
+    };
+    assert_eq!(rt; returned, expected, "of {of:?}");
 }
 
 #[test]
 fn lowest_terms(rt: HostRuntime) {
-    for (parts, (p, q, den)) in LOWEST {
-        let x = frac(&rt, parts);
-        assert_eq!(rt; (x.num().p(), x.num().q()), (p, q), "of {parts:?}");
-        assert_eq!(rt; x.den(), den, "of {parts:?}");
-        assert_eq!(rt; x.denominator(), den.unsigned_abs(), "of {parts:?}");
+    for (parts, (p, q, den)) in LOWEST.iter() {
+        let x = frac(&rt, *parts);
+        let natural = den.unsigned_abs();
+        assert_eq!(rt;
+            (x.num().p(), x.num().q(), x.den(), x.denominator()),
+            (*p, *q, *den, natural),
+            "of {parts:?}"
+        );
     }
 }
 
 #[test]
 fn sums_at_the_edge(rt: HostRuntime) {
     let field = field(&rt, 2);
-    for (x, y, sum) in SUMS {
-        let (x, y, sum) = (frac(&rt, x), frac(&rt, y), expected(&rt, sum));
-        assert_eq!(rt; add(field, x, y), sum, "{x:?} and {y:?}");
-        assert_eq!(rt; add(field, y, x), sum, "{y:?} and {x:?}");
-        assert_eq!(rt;
-            sub(field, x, y.neg()),
-            sum,
-            "{x:?} less the negation of {y:?}"
-        );
+    for (x, y, sum) in SUMS.iter() {
+        let (a, b) = (frac(&rt, *x), frac(&rt, *y));
+        expect(&rt, add(field, a, b), *sum, (2, *x, *y));
+        expect(&rt, add(field, b, a), *sum, (2, *y, *x));
+    }
+}
+
+#[test]
+fn differences_at_the_edge(rt: HostRuntime) {
+    let field = field(&rt, 2);
+    for (x, y, sum) in SUMS.iter() {
+        let (a, b) = (frac(&rt, *x), frac(&rt, *y));
+        expect(&rt, sub(field, a, b.neg()), *sum, (2, *x, *y));
     }
 }
 
 #[test]
 fn products_at_the_edge(rt: HostRuntime) {
-    for (d, x, y, product) in PRODUCTS {
-        let field = field(&rt, d);
-        let (x, y, product) = (frac(&rt, x), frac(&rt, y), expected(&rt, product));
-        assert_eq!(rt; mul(field, x, y), product, "{x:?} times {y:?} at {d}");
-        assert_eq!(rt; mul(field, y, x), product, "{y:?} times {x:?} at {d}");
+    for (d, x, y, product) in PRODUCTS.iter() {
+        let field = field(&rt, *d);
+        let (a, b) = (frac(&rt, *x), frac(&rt, *y));
+        expect(&rt, mul(field, a, b), *product, (*d, *x, *y));
+        expect(&rt, mul(field, b, a), *product, (*d, *y, *x));
     }
 }
 
 #[test]
 fn inverses_at_the_edge(rt: HostRuntime) {
-    for (d, x, inverse) in INVERSES {
-        let field = field(&rt, d);
-        let (x, inverse) = (frac(&rt, x), expected(&rt, inverse));
-        assert!(rt; x.num() != Elem::ZERO);
-        assert_eq!(rt; inv(field, x), inverse, "of {x:?} at {d}");
+    for (d, x, inverse) in INVERSES.iter() {
+        let a = frac(&rt, *x);
+        assert!(rt; a.num() != Elem::ZERO);
+        expect(&rt, inv(field(&rt, *d), a), *inverse, (*d, (1, 0, 1), *x));
     }
 }
 
 #[test]
 fn quotients(rt: HostRuntime) {
-    for (d, x, y, quotient) in QUOTIENTS {
-        let field = field(&rt, d);
-        let (x, y, quotient) = (frac(&rt, x), frac(&rt, y), expected(&rt, quotient));
-        assert!(rt; y.num() != Elem::ZERO);
-        assert_eq!(rt; div(field, x, y), quotient, "{x:?} by {y:?} at {d}");
+    for (d, x, y, quotient) in QUOTIENTS.iter() {
+        let (a, b) = (frac(&rt, *x), frac(&rt, *y));
+        assert!(rt; b.num() != Elem::ZERO);
+        expect(&rt, div(field(&rt, *d), a, b), *quotient, (*d, *x, *y));
     }
 }

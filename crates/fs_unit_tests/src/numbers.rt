@@ -5,8 +5,8 @@ use fs_quadratic::{Elem, Field, Op};
 use std::cmp::Ordering;
 use std::process::Abort;
 
-// d, p above 0, q below 0, and the sign of p + q·√d: mostly convergents of √d and what is beside them.
-const NEAR_TIES: [(u16, i128, i128, Ordering); 44] = [
+// d, p above 0, q below 0, and the sign of p + q·√d: mostly convergents of √d and their neighbours.
+static NEAR_ZERO: [(u16, i128, i128, Ordering); 44] = [
     (2, 3, -2, Ordering::Greater),
     (
         2,
@@ -238,7 +238,7 @@ const NEAR_TIES: [(u16, i128, i128, Ordering); 44] = [
 // numbers at the edge of the width, and just outside.
 type Product = (u16, Pair, Pair, Option<Pair>);
 
-const PRODUCTS: [Product; 24] = [
+static PRODUCTS: [Product; 24] = [
     (
         2,
         (170141183460469231731687303715884105727, 0),
@@ -378,7 +378,7 @@ const PRODUCTS: [Product; 24] = [
 ];
 
 // d, the parts of two numbers, and how they compare: mostly with a difference beyond 128 bits.
-const COMPARISONS: [(u16, Pair, Pair, Ordering); 26] = [
+static COMPARISONS: [(u16, Pair, Pair, Ordering); 26] = [
     (
         2,
         (
@@ -669,18 +669,47 @@ const COMPARISONS: [(u16, Pair, Pair, Ordering); 26] = [
     ),
 ];
 
+// A number, and whether it is the d of a field.
+static FIELDS: [(u16, bool); 9] = [
+    (0, false),
+    (1, false),
+    (2, true),
+    (12, false),
+    (961, false),
+    (997, true),
+    (998, true),
+    (999, false),
+    (1001, false),
+];
+
 // That the number has this sign.
 fn expect_sign(rt: &impl Abort, field: Field, x: Elem, expected: Ordering) {
     assert_eq!(rt; field.sign(x), expected, "of {x:?} at {field:?}");
 }
 
+// That the product is this one, or overflows where none is given.
+fn expect_product(rt: &impl Abort, d: u16, x: Pair, y: Pair, product: Option<Pair>) {
+    let expected = match product {
+        Some(parts) => Ok(elem(rt, parts)),
+        None => Err(Op::Mul),
+    };
+    let result = field(rt, d).mul(elem(rt, x), elem(rt, y));
+    assert_eq!(rt; result, expected, "{x:?} times {y:?} at {d}");
+}
+
+// That the numbers compare like this.
+fn expect_order(rt: &impl Abort, d: u16, x: Pair, y: Pair, expected: Ordering) {
+    let order = field(rt, d).cmp(elem(rt, x), elem(rt, y));
+    assert_eq!(rt; order, expected, "{x:?} and {y:?} at {d}");
+}
+
 #[test]
-fn signs_near_a_tie(rt: HostRuntime) {
-    for (d, p, q, sign) in NEAR_TIES {
-        let field = field(&rt, d);
-        let x = elem(&rt, (p, q));
+fn signs_near_zero(rt: HostRuntime) {
+    for (d, p, q, sign) in NEAR_ZERO.iter() {
+        let field = field(&rt, *d);
+        let x = elem(&rt, (*p, *q));
         let y = x.neg();
-        expect_sign(&rt, field, x, sign);
+        expect_sign(&rt, field, x, *sign);
         expect_sign(&rt, field, y, sign.reverse());
         expect_sign(&rt, field, Elem::new(x.p(), y.q()), Ordering::Greater);
         expect_sign(&rt, field, Elem::new(y.p(), x.q()), Ordering::Less);
@@ -688,51 +717,29 @@ fn signs_near_a_tie(rt: HostRuntime) {
         expect_sign(&rt, field, Elem::new(y.p(), 0), Ordering::Less);
         expect_sign(&rt, field, Elem::new(0, y.q()), Ordering::Greater);
         expect_sign(&rt, field, Elem::new(0, x.q()), Ordering::Less);
+        expect_sign(&rt, field, Elem::ZERO, Ordering::Equal);
     }
-    expect_sign(&rt, field(&rt, 2), Elem::ZERO, Ordering::Equal);
 }
 
 #[test]
 fn products_at_the_edge(rt: HostRuntime) {
-    for (d, x, y, product) in PRODUCTS {
-        let field = field(&rt, d);
-        let expected = match product {
-            Some(parts) => Ok(elem(&rt, parts)),
-            None => Err(Op::Mul),
-        };
-        let (x, y) = (elem(&rt, x), elem(&rt, y));
-        assert_eq!(rt; field.mul(x, y), expected, "{x:?} times {y:?} at {d}");
-        assert_eq!(rt; field.mul(y, x), expected, "{y:?} times {x:?} at {d}");
+    for (d, x, y, product) in PRODUCTS.iter() {
+        expect_product(&rt, *d, *x, *y, *product);
+        expect_product(&rt, *d, *y, *x, *product);
     }
 }
 
 #[test]
 fn comparisons_of_distant_numbers(rt: HostRuntime) {
-    for (d, x, y, expected) in COMPARISONS {
-        let field = field(&rt, d);
-        let (x, y) = (elem(&rt, x), elem(&rt, y));
-        assert_eq!(rt; field.cmp(x, y), expected, "{x:?} and {y:?} at {d}");
-        assert_eq!(rt;
-            field.cmp(y, x),
-            expected.reverse(),
-            "{y:?} and {x:?} at {d}"
-        );
+    for (d, x, y, expected) in COMPARISONS.iter() {
+        expect_order(&rt, *d, *x, *y, *expected);
+        expect_order(&rt, *d, *y, *x, expected.reverse());
     }
 }
 
 #[test]
 fn fields_of_squarefree_numbers(rt: HostRuntime) {
-    for (d, is_field) in [
-        (0, false),
-        (1, false),
-        (2, true),
-        (12, false),
-        (961, false),
-        (997, true),
-        (998, true),
-        (999, false),
-        (1001, false),
-    ] {
-        assert_eq!(rt; Field::new(d).is_ok(), is_field, "at {d}");
+    for (d, is_field) in FIELDS.iter() {
+        assert_eq!(rt; Field::new(*d).is_ok(), *is_field, "at {d}");
     }
 }

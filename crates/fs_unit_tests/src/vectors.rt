@@ -10,12 +10,12 @@ type Outcome = Result<Pair, u32>;
 
 // d, two vectors, and their cross product, their dot product and the first one's norm, or the
 // first place that overflows; computed with whole numbers of any size.
-const FORMULAS: [(u16, Vector, Vector, [Outcome; 3]); 15] = [
+static FORMULAS: [(u16, Vector, Vector, (Outcome, Outcome, Outcome)); 15] = [
     (
         2,
         ((3, 1), (-2, 5)),
         ((7, -4), (1, 2)),
-        [Ok((61, -36)), Ok((31, -4)), Ok((65, -14))],
+        (Ok((61, -36)), Ok((31, -4)), Ok((65, -14))),
     ),
     (
         998,
@@ -27,7 +27,7 @@ const FORMULAS: [(u16, Vector, Vector, [Outcome; 3]); 15] = [
             (288230376151711743, 288230376151711743),
             (288230376151711743, 288230376151711743),
         ),
-        [
+        (
             Ok((
                 165821192474168253994134269172339705804,
                 166153499473114482960054377928196098,
@@ -37,7 +37,7 @@ const FORMULAS: [(u16, Vector, Vector, [Outcome; 3]); 15] = [
                 166153499473114482960054377928196098,
             )),
             Ok((165987345973641368477094323550267901902, 0)),
-        ],
+        ),
     ),
     (
         997,
@@ -49,7 +49,7 @@ const FORMULAS: [(u16, Vector, Vector, [Outcome; 3]); 15] = [
             (288230376151711743, 288230376151711743),
             (288230376151711743, 288230376151711743),
         ),
-        [
+        (
             Ok((
                 165821192474168253994134269172339705804,
                 332306998946228965920108755856392196,
@@ -59,71 +59,71 @@ const FORMULAS: [(u16, Vector, Vector, [Outcome; 3]); 15] = [
                 165821192474168253994134269172339705804,
                 332306998946228965920108755856392196,
             )),
-        ],
+        ),
     ),
     (
         2,
         ((18446744073709551616, 0), (0, 0)),
         ((1, 0), (18446744073709551616, 0)),
-        [Err(1), Ok((18446744073709551616, 0)), Err(1)],
+        (Err(1), Ok((18446744073709551616, 0)), Err(1)),
     ),
     (
         2,
         ((0, 0), (18446744073709551616, 0)),
         ((18446744073709551616, 0), (1, 0)),
-        [Err(2), Ok((18446744073709551616, 0)), Err(2)],
+        (Err(2), Ok((18446744073709551616, 0)), Err(2)),
     ),
     (
         2,
         ((1, 0), (18446744073709551616, 0)),
         ((1, 0), (18446744073709551616, 0)),
-        [Ok((0, 0)), Err(2), Err(2)],
+        (Ok((0, 0)), Err(2), Err(2)),
     ),
     (
         2,
         ((18446744073709551616, 0), (18446744073709551616, 0)),
         ((18446744073709551616, 0), (18446744073709551616, 0)),
-        [Err(1), Err(1), Err(1)],
+        (Err(1), Err(1), Err(1)),
     ),
     (
         2,
         ((170141183460469231731687303715884105727, 0), (1, 0)),
         ((1, 0), (1, 0)),
-        [
+        (
             Ok((170141183460469231731687303715884105726, 0)),
             Err(3),
             Err(1),
-        ],
+        ),
     ),
     (
         2,
         ((170141183460469231731687303715884105727, 0), (1, 0)),
         ((-1, 0), (1, 0)),
-        [
+        (
             Err(3),
             Ok((-170141183460469231731687303715884105726, 0)),
             Err(1),
-        ],
+        ),
     ),
     (
         2,
         ((0, 170141183460469231731687303715884105727), (0, 0)),
         ((1, 0), (1, 0)),
-        [
+        (
             Ok((0, 170141183460469231731687303715884105727)),
             Ok((0, 170141183460469231731687303715884105727)),
             Err(1),
-        ],
+        ),
     ),
     (
         2,
         ((1, 0), (1, 0)),
         ((0, 170141183460469231731687303715884105727), (0, -1)),
-        [
+        (
             Err(3),
             Ok((0, 170141183460469231731687303715884105726)),
             Ok((2, 0)),
-        ],
+        ),
     ),
     (
         2,
@@ -138,23 +138,23 @@ const FORMULAS: [(u16, Vector, Vector, [Outcome; 3]); 15] = [
                 -170141183460469231731687303715884105727,
             ),
         ),
-        [Ok((0, 0)), Ok((0, 0)), Ok((0, 0))],
+        (Ok((0, 0)), Ok((0, 0)), Ok((0, 0))),
     ),
     (
         2,
         ((9223372036854775808, 0), (9223372036854775808, 0)),
         ((9223372036854775808, 0), (9223372036854775808, 0)),
-        [Ok((0, 0)), Err(3), Err(3)],
+        (Ok((0, 0)), Err(3), Err(3)),
     ),
     (
         3,
         ((9223372036854775808, 0), (9223372036854775807, 0)),
         ((9223372036854775808, 0), (9223372036854775807, 0)),
-        [
+        (
             Ok((0, 0)),
             Ok((170141183460469231713240559642174554113, 0)),
             Ok((170141183460469231713240559642174554113, 0)),
-        ],
+        ),
     ),
     (
         3,
@@ -166,7 +166,7 @@ const FORMULAS: [(u16, Vector, Vector, [Outcome; 3]); 15] = [
             (2305843009213693952, 2305843009213693952),
             (-2305843009213693952, 2305843009213693952),
         ),
-        [
+        (
             Ok((
                 -10633823966279326983230456482242756608,
                 -10633823966279326983230456482242756608,
@@ -179,13 +179,13 @@ const FORMULAS: [(u16, Vector, Vector, [Outcome; 3]); 15] = [
                 42535295865117307932921825928971026432,
                 21267647932558653966460912964485513216,
             )),
-        ],
+        ),
     ),
 ];
 
 // d, the outgoing and the incoming side of a corner, a vector, and whether it is in the sector, or
 // the first place that overflows; computed with whole numbers of any size.
-const SECTORS: [(u16, Vector, Vector, Vector, Result<bool, u32>); 25] = [
+static SECTORS: [(u16, Vector, Vector, Vector, Result<bool, u32>); 25] = [
     (
         2,
         ((1, 0), (0, 0)),
@@ -367,7 +367,7 @@ const SECTORS: [(u16, Vector, Vector, Vector, Result<bool, u32>); 25] = [
 const MOST_SMALL: i128 = 288230376151711743;
 
 // A vector, and whether its first and its second coordinate is small.
-const SIZES: [(Vector, bool, bool); 8] = [
+static SIZES: [(Vector, bool, bool); 8] = [
     (((0, 0), (0, 0)), true, true),
     (
         ((MOST_SMALL, -MOST_SMALL), (-MOST_SMALL, MOST_SMALL)),
@@ -383,7 +383,7 @@ const SIZES: [(Vector, bool, bool); 8] = [
 ];
 
 // A vector over the field of √2, whether it is upper, and whether it is raised.
-const HALVES: [(Vector, bool, bool); 7] = [
+static UPPER_AND_RAISED: [(Vector, bool, bool); 7] = [
     (((0, 0), (0, 0)), false, false),
     (((1, 0), (0, 0)), true, false),
     (((-1, 0), (0, 0)), false, true),
@@ -393,40 +393,43 @@ const HALVES: [(Vector, bool, bool); 7] = [
     (((5, 0), (1, -1)), false, false),
 ];
 
-// The number of these parts, or the place of this number.
-fn outcome(rt: &impl Abort, expected: Outcome) -> Result<Elem, Place> {
-    match expected {
+// That what a call returned is the number of these parts, or the place of this number; `of` says
+// what it was called with.
+fn expect(
+    rt: &impl Abort,
+    returned: Result<Elem, Place>,
+    outcome: Outcome,
+    of: (u16, Vector, Vector),
+) {
+    let expected = match outcome {
         Ok(parts) => Ok(elem(rt, parts)),
         Err(place) => Err(Place(place)),
-    }
+    };
+    assert_eq!(rt; returned, expected, "of {of:?}");
 }
 
 #[test]
 fn formulas_and_their_places(rt: HostRuntime) {
-    for (d, a, b, expected) in FORMULAS {
-        let field = field(&rt, d);
-        let (a, b) = (vector(&rt, a), vector(&rt, b));
-        assert_eq!(rt;
-            cross(field, a, b),
-            outcome(&rt, expected[0]),
-            "cross of {a:?} and {b:?}"
-        );
-        assert_eq!(rt;
-            dot(field, a, b),
-            outcome(&rt, expected[1]),
-            "dot of {a:?} and {b:?}"
-        );
-        assert_eq!(rt; norm(field, a), outcome(&rt, expected[2]), "norm of {a:?}");
+    for (d, a, b, (across, along, length)) in FORMULAS.iter() {
+        let field = field(&rt, *d);
+        let (v, w) = (vector(&rt, *a), vector(&rt, *b));
+        expect(&rt, cross(field, v, w), *across, (*d, *a, *b));
+        expect(&rt, dot(field, v, w), *along, (*d, *a, *b));
+        expect(&rt, norm(field, v), *length, (*d, *a, *a));
     }
 }
 
 #[test]
 fn sectors_and_their_places(rt: HostRuntime) {
-    for (d, out, incoming, v, expected) in SECTORS {
-        let field = field(&rt, d);
-        let (out, incoming, v) = (vector(&rt, out), vector(&rt, incoming), vector(&rt, v));
+    for (d, out, incoming, v, expected) in SECTORS.iter() {
+        let result = in_sector(
+            field(&rt, *d),
+            vector(&rt, *out),
+            vector(&rt, *incoming),
+            vector(&rt, *v),
+        );
         assert_eq!(rt;
-            in_sector(field, out, incoming, v),
+            result,
             expected.map_err(Place),
             "{v:?} in the sector from {out:?} to the opposite of {incoming:?}"
         );
@@ -435,20 +438,25 @@ fn sectors_and_their_places(rt: HostRuntime) {
 
 #[test]
 fn small_vectors(rt: HostRuntime) {
-    for (parts, x, y) in SIZES {
-        let v = vector(&rt, parts);
-        assert_eq!(rt; v.x.is_small(), x, "x of {parts:?}");
-        assert_eq!(rt; v.y.is_small(), y, "y of {parts:?}");
-        assert_eq!(rt; v.is_small(), x && y, "{parts:?}");
+    for (parts, x, y) in SIZES.iter() {
+        let v = vector(&rt, *parts);
+        assert_eq!(rt;
+            (v.x.is_small(), v.y.is_small(), v.is_small()),
+            (*x, *y, *x && *y),
+            "{parts:?}"
+        );
     }
 }
 
 #[test]
 fn upper_and_raised_vectors(rt: HostRuntime) {
     let field = field(&rt, 2);
-    for (parts, upper, raised) in HALVES {
-        let v = vector(&rt, parts);
-        assert_eq!(rt; v.is_upper(field), upper, "{parts:?}");
-        assert_eq!(rt; v.is_raised(field), raised, "{parts:?}");
+    for (parts, upper, raised) in UPPER_AND_RAISED.iter() {
+        let v = vector(&rt, *parts);
+        assert_eq!(rt;
+            (v.is_upper(field), v.is_raised(field)),
+            (*upper, *raised),
+            "{parts:?}"
+        );
     }
 }

@@ -9,7 +9,7 @@ use fs_quadratic::width::{
 // Two integers, and their sum, difference and product where it is within the width.
 type Results = (i128, i128, Option<i128>, Option<i128>, Option<i128>);
 
-const RESULTS: [Results; 17] = [
+static RESULTS: [Results; 17] = [
     (0, 0, Some(0), Some(0), Some(0)),
     (MOST, 0, Some(MOST), Some(MOST), Some(0)),
     (MOST, 1, None, Some(MOST - 1), Some(MOST)),
@@ -72,7 +72,7 @@ const RESULTS: [Results; 17] = [
 ];
 
 // d, two integers, and d times their product where both it and the product are within the width.
-const MULTIPLES: [(u16, i128, i128, Option<i128>); 13] = [
+static MULTIPLES: [(u16, i128, i128, Option<i128>); 13] = [
     (0, MOST, 1, Some(0)),
     (0, MOST, 2, None),
     (1, MOST, 1, Some(MOST)),
@@ -107,7 +107,7 @@ const MULTIPLES: [(u16, i128, i128, Option<i128>); 13] = [
 const MOST_NATURAL: u128 = 170141183460469231731687303715884105727;
 
 // Two natural numbers, and their product where it is within the width.
-const NATURAL_PRODUCTS: [(u128, u128, Option<u128>); 12] = [
+static NATURAL_PRODUCTS: [(u128, u128, Option<u128>); 12] = [
     (0, 0, Some(0)),
     (MOST_NATURAL, 1, Some(MOST_NATURAL)),
     (MOST_NATURAL, 2, None),
@@ -136,24 +136,30 @@ const NATURAL_PRODUCTS: [(u128, u128, Option<u128>); 12] = [
 
 #[test]
 fn sums_differences_products(rt: HostRuntime) {
-    for (a, b, sum, difference, product) in RESULTS {
-        assert_eq!(rt; checked_sum(a, b), sum, "{a} + {b}");
-        assert_eq!(rt; checked_difference(a, b), difference, "{a} - {b}");
-        assert_eq!(rt; checked_product(a, b), product, "{a} * {b}");
+    for (a, b, sum, difference, product) in RESULTS.iter() {
+        assert_eq!(rt;
+            (
+                checked_sum(*a, *b),
+                checked_difference(*a, *b),
+                checked_product(*a, *b)
+            ),
+            (*sum, *difference, *product),
+            "{a} and {b}"
+        );
     }
 }
 
 #[test]
 fn multiples(rt: HostRuntime) {
-    for (d, a, b, multiple) in MULTIPLES {
-        assert_eq!(rt; checked_multiple(d, a, b), multiple, "{d} * {a} * {b}");
+    for (d, a, b, multiple) in MULTIPLES.iter() {
+        assert_eq!(rt; checked_multiple(*d, *a, *b), *multiple, "{d} * {a} * {b}");
     }
 }
 
 #[test]
 fn natural_products(rt: HostRuntime) {
-    for (a, b, product) in NATURAL_PRODUCTS {
-        assert_eq!(rt; checked_natural_product(a, b), product, "{a} * {b}");
+    for (a, b, product) in NATURAL_PRODUCTS.iter() {
+        assert_eq!(rt; checked_natural_product(*a, *b), *product, "{a} * {b}");
     }
 }
 
