@@ -54,10 +54,7 @@ fn corner(text: &[u8]) -> Option<Corner>
     ensures { Finds (SpellsCorner text.now) result }
 {
     let (polygon, side) = cut_once(text, b'.')?;
-    Some(Corner {
-        polygon: numeral(polygon)?,
-        side: numeral(side)?,
-    })
+    Some(Corner::new(numeral(polygon)?, numeral(side)?))
 }
 
 // The d after the first word of a field line.

@@ -652,25 +652,13 @@ fn what_a_job_says(rt: HostRuntime) -> Result<(), Fail> {
     let glues = [
         Glue {
             line: 4,
-            one: Corner {
-                polygon: 7,
-                side: 0,
-            },
-            two: Corner {
-                polygon: 1,
-                side: 32,
-            },
+            one: Corner::new(7, 0),
+            two: Corner::new(1, 32),
         },
         Glue {
             line: 8,
-            one: Corner {
-                polygon: 0,
-                side: 1,
-            },
-            two: Corner {
-                polygon: 0,
-                side: 1,
-            },
+            one: Corner::new(0, 1),
+            two: Corner::new(0, 1),
         },
     ];
     assert!(rt; shape.glues.as_slice() == glues.as_slice());
