@@ -367,7 +367,7 @@ static TEXTS: [(&[u8], &str, u32); 49] = [
 
 // The result for each line of the square cut short, by the number of bytes that are left: `.` is
 // none, `h` BadHeader, `l` BadLine and `n` BadNumber of the same line.
-const CUT_SHORT: [&str; 7] = [
+static CUT_SHORT: [&str; 7] = [
     "hhhhhhhhhh.",
     ".llllll.",
     ".llllll..ln..ln..lln..lnn.",
@@ -378,7 +378,7 @@ const CUT_SHORT: [&str; 7] = [
 ];
 
 // The result for the square where a line is missing, doubled, or exchanged with the next.
-const MISSING: [(&str, u32); 7] = [
+static MISSING: [(&str, u32); 7] = [
     ("BadHeader", 0),
     ("BadLine", 2),
     ("BadLine", 5),
@@ -388,7 +388,7 @@ const MISSING: [(&str, u32); 7] = [
     ("NoEnd", 0),
 ];
 
-const DOUBLED: [(&str, u32); 7] = [
+static DOUBLED: [(&str, u32); 7] = [
     ("BadLine", 2),
     ("BadLine", 3),
     ("read", 0),
@@ -398,7 +398,7 @@ const DOUBLED: [(&str, u32); 7] = [
     ("BadLine", 8),
 ];
 
-const EXCHANGED: [(&str, u32); 6] = [
+static EXCHANGED: [(&str, u32); 6] = [
     ("BadHeader", 0),
     ("BadLine", 2),
     ("read", 0),
@@ -452,54 +452,92 @@ fn read(alloc: Global, text: &[u8]) -> (&'static str, u32) {
     told(&read_job(alloc, text))
 }
 
+// That a text gives this result.
+fn expect(rt: &impl Abort, alloc: Global, text: &[u8], expected: (&'static str, u32)) {
+    assert_eq!(rt; read(alloc, text), expected, "{text:?}");
+}
+
+// That the square with this text in place of a line gives a result of this name, at that line if
+// it has one.
+fn expect_change(
+    rt: &impl Abort,
+    alloc: Global,
+    number: usize,
+    change: &str,
+    name: &str,
+) -> Result<(), Fail> {
+    let mut prefix = with_lines(Vec::new(alloc), 0, number.saturating_sub(1))?;
+    prefix.extend_from_slice(change.as_bytes())?;
+    prefix.push(b'\n')?;
+    let job = with_lines(prefix, number, 7)?;
+    let (answer, line) = read(alloc, job.as_slice());
+    assert_eq!(rt; answer, name, "{change}");
+    assert!(rt; line == 0 || line as usize == number, "{change}");
+    Ok(())
+}
+
 #[test]
 fn changed_lines(rt: HostRuntime) -> Result<(), Fail> {
-    let alloc = rt.alloc();
     for (number, change, name) in CHANGES.iter() {
-        let mut prefix = with_lines(Vec::new(alloc), 0, number.saturating_sub(1))?;
-        prefix.extend_from_slice(change.as_bytes())?;
-        prefix.push(b'\n')?;
-        let job = with_lines(prefix, *number, 7)?;
-        let (answer, line) = read(alloc, job.as_slice());
-        assert_eq!(rt; answer, *name, "{change}");
-        assert!(rt; line == 0 || line as usize == *number, "{change}");
+        expect_change(&rt, rt.alloc(), *number, change, name)?;
     }
     Ok(())
 }
 
 #[test]
-fn whole_texts(rt: HostRuntime) -> Result<(), Fail> {
+fn whole_texts(rt: HostRuntime) {
     for (text, name, line) in TEXTS.iter() {
-        assert_eq!(rt; read(rt.alloc(), text), (*name, *line), "{text:?}");
+        expect(&rt, rt.alloc(), text, (*name, *line));
     }
+}
+
+// That the square without a line gives this result, and with a blank line in its place the same one
+// line later.
+fn expect_missing(
+    rt: &impl Abort,
+    alloc: Global,
+    i: usize,
+    name: &'static str,
+    line: u32,
+) -> Result<(), Fail> {
+    let missing = changed(alloc, i, i + 1, &[])?;
+    expect(rt, alloc, missing.as_slice(), (name, line));
+    let blank = changed(alloc, i, i + 1, b"\n")?;
+    let later = if line == 0 { 0 } else { line + 1 };
+    expect(rt, alloc, blank.as_slice(), (name, later));
     Ok(())
 }
 
 #[test]
 fn missing_and_blank_lines(rt: HostRuntime) -> Result<(), Fail> {
-    let alloc = rt.alloc();
     for (i, (name, line)) in MISSING.iter().enumerate() {
-        let missing = changed(alloc, i, i + 1, &[])?;
-        assert_eq!(rt; read(alloc, missing.as_slice()), (*name, *line), "{i}");
-        let blank = changed(alloc, i, i + 1, b"\n")?;
-        let later = if *line == 0 { 0 } else { *line + 1 };
-        assert_eq!(rt; read(alloc, blank.as_slice()), (*name, later), "{i}");
+        expect_missing(&rt, rt.alloc(), i, name, *line)?;
     }
     Ok(())
 }
 
 #[test]
-fn doubled_and_exchanged_lines(rt: HostRuntime) -> Result<(), Fail> {
-    let alloc = rt.alloc();
+fn doubled_lines(rt: HostRuntime) -> Result<(), Fail> {
     for (i, expected) in DOUBLED.iter().enumerate() {
-        let twice = with_lines(with_lines(Vec::new(alloc), 0, i + 1)?, i, 7)?;
-        assert_eq!(rt; read(alloc, twice.as_slice()), *expected, "{i}");
+        let once = with_lines(Vec::new(rt.alloc()), 0, i + 1)?;
+        let twice = with_lines(once, i, 7)?;
+        expect(&rt, rt.alloc(), twice.as_slice(), *expected);
     }
+    Ok(())
+}
+
+// The square with a line after the next one.
+fn exchanged(alloc: Global, i: usize) -> Result<Vec<u8>, AllocError> {
+    let prefix = with_lines(Vec::new(alloc), 0, i)?;
+    let both = with_lines(with_lines(prefix, i + 1, i + 2)?, i, i + 1)?;
+    with_lines(both, i + 2, 7)
+}
+
+#[test]
+fn exchanged_lines(rt: HostRuntime) -> Result<(), Fail> {
     for (i, expected) in EXCHANGED.iter().enumerate() {
-        let prefix = with_lines(Vec::new(alloc), 0, i)?;
-        let both = with_lines(with_lines(prefix, i + 1, i + 2)?, i, i + 1)?;
-        let job = with_lines(both, i + 2, 7)?;
-        assert_eq!(rt; read(alloc, job.as_slice()), *expected, "{i}");
+        let job = exchanged(rt.alloc(), i)?;
+        expect(&rt, rt.alloc(), job.as_slice(), *expected);
     }
     Ok(())
 }
@@ -525,23 +563,39 @@ fn cut_text(alloc: Global, i: usize, k: usize) -> Result<Vec<u8>, AllocError> {
     Ok(text)
 }
 
+// That the square up to k bytes of a line gives the result of this letter, and with all lines after
+// it too.
+fn expect_cut(rt: &impl Abort, alloc: Global, i: usize, k: usize, letter: u8) -> Result<(), Fail> {
+    let number = i as u32 + 1;
+    let mut text = cut_text(alloc, i, k)?;
+    let ended = i == 6 && k == 3;
+    let end = of_letter(letter, number, if ended { "read" } else { "NoEnd" });
+    expect(rt, alloc, text.as_slice(), end);
+    if k > 0 {
+        text.push(b'\n')?;
+        let whole = with_lines(text, i + 1, 7)?;
+        expect(
+            rt,
+            alloc,
+            whole.as_slice(),
+            of_letter(letter, number, "read"),
+        );
+    }
+    Ok(())
+}
+
+// That a line cut short at each byte gives the results of these letters.
+fn expect_cuts(rt: &impl Abort, alloc: Global, i: usize, letters: &str) -> Result<(), Fail> {
+    for (k, letter) in letters.as_bytes().iter().enumerate() {
+        expect_cut(rt, alloc, i, k, *letter)?;
+    }
+    Ok(())
+}
+
 #[test]
 fn lines_cut_short_at_each_byte(rt: HostRuntime) -> Result<(), Fail> {
-    let alloc = rt.alloc();
     for (i, letters) in CUT_SHORT.iter().enumerate() {
-        let number = i as u32 + 1;
-        for (k, letter) in letters.as_bytes().iter().enumerate() {
-            let mut text = cut_text(alloc, i, k)?;
-            let ended = i == 6 && k == 3;
-            let end = of_letter(*letter, number, if ended { "read" } else { "NoEnd" });
-            assert_eq!(rt; read(alloc, text.as_slice()), end, "{number} {k}");
-            if k > 0 {
-                text.push(b'\n')?;
-                let whole = with_lines(text, i + 1, 7)?;
-                let expected = of_letter(*letter, number, "read");
-                assert_eq!(rt; read(alloc, whole.as_slice()), expected, "{number} {k}");
-            }
-        }
+        expect_cuts(&rt, rt.alloc(), i, letters)?;
     }
     Ok(())
 }
@@ -563,63 +617,73 @@ fn repeated(
     Ok(text)
 }
 
+// Texts as `repeated` makes them, and their results.
+static LIMITS: [(&[u8], &[u8], usize, &[u8], (&str, u32)); 12] = [
+    (b"", b"polygon 1,0\n", 256, b"end", ("read", 0)),
+    (b"", b"polygon 1,0\n", 257, b"end", ("TooMany", 259)),
+    (
+        b"",
+        b"polygon 1,0\n",
+        256,
+        b"polygon x,0\n",
+        ("TooMany", 259),
+    ),
+    (b"", b"polygon 1,0\n", 256, b"polygon 1\n", ("BadLine", 259)),
+    (b"polygon", b" 1,0", 1024, b"\nend", ("read", 0)),
+    (b"polygon", b" 1,0", 1025, b"\nend", ("TooMany", 3)),
+    (b"polygon x,0", b" 1,0", 1024, b"\nend", ("TooMany", 3)),
+    (
+        b"polygon 1,0\npolygon",
+        b" 1,0",
+        1023,
+        b"\npolygon\nend",
+        ("read", 0),
+    ),
+    (
+        b"polygon 1,0\npolygon",
+        b" 1,0",
+        1023,
+        b"\npolygon x,0\n",
+        ("TooMany", 5),
+    ),
+    (b"polygon\n", b"check\n", 256, b"end", ("read", 0)),
+    (b"polygon\n", b"check\n", 257, b"end", ("TooMany", 260)),
+    (
+        b"polygon\n",
+        b"check\n",
+        256,
+        b"check 1\nend",
+        ("BadLine", 260),
+    ),
+];
+
 #[test]
 fn limits(rt: HostRuntime) -> Result<(), Fail> {
-    let alloc = rt.alloc();
-    let rows: [(&[u8], &[u8], usize, &[u8], (&str, u32)); 12] = [
-        (b"", b"polygon 1,0\n", 256, b"end", ("read", 0)),
-        (b"", b"polygon 1,0\n", 257, b"end", ("TooMany", 259)),
-        (
-            b"",
-            b"polygon 1,0\n",
-            256,
-            b"polygon x,0\n",
-            ("TooMany", 259),
-        ),
-        (b"", b"polygon 1,0\n", 256, b"polygon 1\n", ("BadLine", 259)),
-        (b"polygon", b" 1,0", 1024, b"\nend", ("read", 0)),
-        (b"polygon", b" 1,0", 1025, b"\nend", ("TooMany", 3)),
-        (b"polygon x,0", b" 1,0", 1024, b"\nend", ("TooMany", 3)),
-        (
-            b"polygon 1,0\npolygon",
-            b" 1,0",
-            1023,
-            b"\npolygon\nend",
-            ("read", 0),
-        ),
-        (
-            b"polygon 1,0\npolygon",
-            b" 1,0",
-            1023,
-            b"\npolygon x,0\n",
-            ("TooMany", 5),
-        ),
-        (b"polygon\n", b"check\n", 256, b"end", ("read", 0)),
-        (b"polygon\n", b"check\n", 257, b"end", ("TooMany", 260)),
-        (
-            b"polygon\n",
-            b"check\n",
-            256,
-            b"check 1\nend",
-            ("BadLine", 260),
-        ),
-    ];
-    for (first, again, times, last, expected) in rows {
-        let text = repeated(alloc, first, again, times, last)?;
-        assert_eq!(rt;
-            read(alloc, text.as_slice()),
-            expected,
-            "{first:?} {again:?} {times}"
-        );
+    for (first, again, times, last, expected) in LIMITS.iter() {
+        let text = repeated(rt.alloc(), first, again, *times, last)?;
+        expect(&rt, rt.alloc(), text.as_slice(), *expected);
     }
-    let glues = repeated(alloc, b"polygon\n", b"glue 0.0 0.0\n", 3000, b"end")?;
-    assert_eq!(rt; read(alloc, glues.as_slice()), ("read", 0));
-    let spaces = repeated(alloc, b"polygon", b" ", 1_048_576 - 30, b"\nend")?;
-    assert_eq!(rt; spaces.len(), 1_048_576);
-    assert_eq!(rt; read(alloc, spaces.as_slice()), ("read", 0));
     Ok(())
 }
 
+#[test]
+fn glue_lines_without_limit(rt: HostRuntime) -> Result<(), Fail> {
+    let alloc = rt.alloc();
+    let glues = repeated(alloc, b"polygon\n", b"glue 0.0 0.0\n", 3000, b"end")?;
+    expect(&rt, alloc, glues.as_slice(), ("read", 0));
+    Ok(())
+}
+
+#[test]
+fn most_bytes(rt: HostRuntime) -> Result<(), Fail> {
+    let alloc = rt.alloc();
+    let spaces = repeated(alloc, b"polygon", b" ", 1_048_576 - 30, b"\nend")?;
+    assert_eq!(rt; spaces.len(), 1_048_576);
+    expect(&rt, alloc, spaces.as_slice(), ("read", 0));
+    Ok(())
+}
+
+// The fraction that a text spells.
 fn number(rt: &impl Abort, text: &str) -> Frac {
     match read_number(text.as_bytes()) {
         Ok(x) => x,
