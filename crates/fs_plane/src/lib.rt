@@ -7,6 +7,6 @@ mod sites;
 mod vector;
 
 pub use corners::Corner;
-pub use formulas::{cross, dot, in_sector, norm};
+pub use formulas::{cross, dot, in_sector, is_convex, norm};
 pub use sites::{Place, Site, Stop};
 pub use vector::V2;
