@@ -7,8 +7,8 @@ use Rattle.fs_quadratic.specs.Radicand.{IsRadicand}
 use Rattle.fs_quadratic.specs.Ring.{Quadratic, IsPositive, sign}
 use Rattle.fs_quadratic.proofs.SquareRoot.{radicand_no_square}
 use Rattle.fs_quadratic.proofs.Signs.{sign-positive, positive_of_sign}
-use Rattle.fs_plane.specs.declared.sites.Place.{Place}
-use Rattle.fs_plane.specs.Checked.{◌>>=◌}
+use Rattle.fs_quadratic.specs.declared.steps.Place.{Place}
+use Rattle.fs_quadratic.specs.Checked.{◌>>=◌}
 use Rattle.fs_plane.specs.Formulas.{is_above_zero}
 
 greater_of : (o : Ordering) → IsTrue (is_gt o) → o ≡ Greater

@@ -7,7 +7,7 @@ use Rattle.fs_quadratic.specs.Radicand.{IsRadicand}
 use Rattle.fs_quadratic.specs.Ring.{Quadratic, IsPositive, sign}
 use Rattle.fs_quadratic.proofs.SquareRoot.{radicand_no_square}
 use Rattle.fs_quadratic.proofs.Signs.{sign-positive, sign-zero, positive_of_sign, zero_of_sign}
-use Rattle.fs_plane.specs.declared.sites.Place.{Place}
+use Rattle.fs_quadratic.specs.declared.steps.Place.{Place}
 use Rattle.fs_plane.specs.Formulas.{cross_after, dot_after, is_above_zero, by_bend, is_convex_after}
 use Rattle.fs_plane.specs.Vector.{PlaneVector, cross, dot, IsAllowedCorner}
 use Rattle.fs_plane.proofs.FormulaLaws.{cross_value, dot_value}

@@ -5,9 +5,9 @@ use Rattle.std.specs.declared.cmp.Ordering.{Ordering}
 use Rattle.std.specs.declared.cmp.Ordering.TheVariants.{Less, Equal, Greater}
 use Rattle.fs_quadratic.specs.Ring.{Quadratic, sign}
 use Rattle.fs_quadratic.specs.Width.{Fits, MulFits}
-use Rattle.fs_plane.specs.declared.sites.Place.{Place}
+use Rattle.fs_quadratic.specs.declared.steps.Place.{Place}
 use Rattle.fs_plane.specs.Vector.{PlaneVector, vector_neg, cross, dot}
-use Rattle.fs_plane.specs.Checked.{◌>>=◌, checked_product, checked_sum, checked_difference}
+use Rattle.fs_quadratic.specs.Checked.{◌>>=◌, checked_product, checked_sum, checked_difference}
 
 -- a.x·b.y - a.y·b.x
 unfoldable pub cross_after : ℕ → ℕ → PlaneVector → PlaneVector → Result Quadratic Place

@@ -1,11 +1,10 @@
 ghost use Rattle.std.specs.Prelude.{◌≡◌, ◌+◌, ◌<◌, ◌^◌, ◌↔◌, IfOk, IsTrue};
-ghost use Rattle.fs_plane.specs.Checked.{checked_product, checked_sum, checked_difference};
 ghost use Rattle.fs_plane.specs.Formulas.{cross_after, dot_after, norm_after, in_sector_after, is_convex_after, is_above_zero};
 ghost use Rattle.fs_plane.specs.Vector.{IsSmallVector, IsInSector, IsAllowedCorner, cross, dot, norm};
 
-use crate::sites::Place;
 use crate::vector::V2;
-use fs_quadratic::{Elem, Field};
+use fs_quadratic::steps::{difference_at, product_at, sum_at};
+use fs_quadratic::{Elem, Field, Place};
 use std::cmp::Ordering;
 
 /// The cross product a.x·b.y - a.y·b.x, or the first place that overflows: place 1 is
@@ -177,22 +176,4 @@ fn dot_small(field: Field, a: V2, b: V2) -> Elem
 {
     let left = field.mul_small(a.x, b.x);
     left.add_fitting(field.mul_small(a.y, b.y))
-}
-
-fn product_at(place: u32, field: Field, x: Elem, y: Elem) -> Result<Elem, Place>
-    ensures { result ≡ checked_product field.d place x y }
-{
-    field.mul(x, y).map_err(|_| Place(place))
-}
-
-fn sum_at(place: u32, x: Elem, y: Elem) -> Result<Elem, Place>
-    ensures { result ≡ checked_sum place x y }
-{
-    x.add(y).map_err(|_| Place(place))
-}
-
-fn difference_at(place: u32, x: Elem, y: Elem) -> Result<Elem, Place>
-    ensures { result ≡ checked_difference place x y }
-{
-    x.sub(y).map_err(|_| Place(place))
 }

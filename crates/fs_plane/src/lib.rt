@@ -8,5 +8,6 @@ mod vector;
 
 pub use corners::Corner;
 pub use formulas::{cross, dot, in_sector, is_convex, norm};
-pub use sites::{Place, Site, Stop};
+pub use fs_quadratic::Place;
+pub use sites::{Site, Stop};
 pub use vector::V2;
