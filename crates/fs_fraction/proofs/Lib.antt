@@ -7,3 +7,4 @@ pub mod Parts
 pub mod Readings
 pub mod Spellings
 pub mod ExactResults
+pub mod FittingTests

@@ -1,7 +1,7 @@
 -- Sums, products and inverses of fractions, and the numbers by which they are computed.
-use Rattle.std.specs.Prelude.{ℕ, ℤ, pos, negsuc, neg_ℤ, ◌*◌, ◌/◌, ◌-ℤ◌, ◌*ℤ◌, unsigned_abs}
+use Rattle.std.specs.Prelude.{Bool, ◌&&◌, ℕ, ℤ, pos, negsuc, neg_ℤ, ◌*◌, ◌/◌, ◌-ℤ◌, ◌*ℤ◌, unsigned_abs}
 use Rattle.fs_quadratic.specs.Ring.{Quadratic, add, neg, mul}
-use Rattle.fs_quadratic.specs.Width.{InWidth, Fits, MultipleFits, MulFits}
+use Rattle.fs_quadratic.specs.Width.{InWidth, Fits, MultipleFits, MulFits, is_in_width, is_fitting, is_fitting_multiple, is_fitting_mul}
 use Rattle.fs_fraction.specs.Divisor.{gcd, content, divide}
 use Rattle.fs_fraction.specs.Fraction.{Fraction, scale, reduced}
 
@@ -105,3 +105,21 @@ quotient d x y = product d x (reciprocal d y)
 -- the numbers by which both are computed are within the width
 abbrev pub QuotientFits : ℕ → Fraction → Fraction → Type 0
 QuotientFits d x y = ReciprocalFits d y × ProductFits d x (reciprocal d y)
+
+-- ---- the same conditions as tests that compute
+
+-- the numbers of the sum are within the width
+abbrev pub is_fitting_sum : Fraction → Fraction → Bool
+is_fitting_sum x y = is_in_width (pos (common_den x y)) && is_fitting (left_num x y) && is_fitting (right_num x y) && is_fitting (add (left_num x y) (right_num x y))
+
+-- those of the product are
+abbrev pub is_fitting_product : ℕ → Fraction → Fraction → Bool
+is_fitting_product d x y = is_fitting_mul d (rest_num x y) (rest_num y x) && is_in_width (pos (rest_den x y))
+
+-- those of the norm are
+abbrev pub is_fitting_norm : ℕ → Quadratic → Bool
+is_fitting_norm d x = is_in_width (x.p *ℤ x.p) && is_fitting_multiple d x.q x.q && is_in_width (norm d x)
+
+-- those of the inverse are
+abbrev pub is_fitting_reciprocal : ℕ → Fraction → Bool
+is_fitting_reciprocal d x = is_fitting_norm d (primitive x.num) && is_fitting (inverse_num x) && is_in_width (pos (inverse_den d x))

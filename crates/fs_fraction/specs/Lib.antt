@@ -3,3 +3,4 @@ pub mod Fraction
 pub mod Arithmetic
 pub mod Number
 pub mod Parts
+pub mod CheckedFractions

@@ -8,6 +8,7 @@ mod fraction;
 mod memory;
 mod number;
 mod spelling;
+pub mod steps;
 mod value;
 mod width;
 mod written;

@@ -2,11 +2,11 @@
 use Rattle.std.specs.Prelude.{ℕ, ◌+◌, List, [], ◌∷◌, ◌++◌, Result, Ok, Err, map, drop}
 use Rattle.fs_ring.specs.Vector as plane
 use Rattle.fs_quadratic.specs.Ring.{Quadratic, quadratic, zero, add}
-use Rattle.fs_plane.specs.declared.sites.Place.{Place}
+use Rattle.fs_quadratic.specs.declared.steps.Place.{Place}
 use Rattle.fs_plane.specs.declared.sites.Site.{Site}
 use Rattle.fs_plane.specs.declared.sites.Site.TheVariants as sites
 use Rattle.fs_plane.specs.Vector.{vector_zero, PlaneVector}
-use Rattle.fs_plane.specs.Checked.{◌>>=◌, checked_sum}
+use Rattle.fs_quadratic.specs.Checked.{◌>>=◌, checked_sum}
 use Rattle.fs_plane.specs.Formulas.{cross_after}
 use Rattle.fs_gluing.specs.Positions.{positions_from}
 use Rattle.fs_gluing.specs.Surface.{GluedPolygons, side_vectors}

@@ -6,7 +6,7 @@ use Rattle.fs_quadratic.specs.Width.{Fits}
 use Rattle.fs_plane.specs.declared.corners.Corner.{Corner}
 use Rattle.fs_plane.specs.declared.sites.Site.TheVariants as sites
 use Rattle.fs_plane.specs.Vector.{vector_neg, PlaneVector}
-use Rattle.fs_plane.specs.Checked.{place}
+use Rattle.fs_quadratic.specs.Checked.{place}
 use Rattle.fs_plane.specs.Formulas.{cross_after}
 use Rattle.fs_gluing.specs.declared.shapes.Glue.{Glue}
 use Rattle.fs_gluing.specs.declared.shapes.Shape.{Shape}

@@ -5,11 +5,11 @@ use Rattle.std.specs.Result.{OkIff}
 use Rattle.fs_quadratic.specs.Ring.{Quadratic, add, sub, mul}
 use Rattle.fs_quadratic.specs.Width.{Fits, MulFits, is_fitting, is_fitting_mul}
 use Rattle.fs_quadratic.proofs.WidthTests.{Decides-is_fitting, Decides-is_fitting_mul}
-use Rattle.fs_plane.specs.declared.sites.Place.{Place}
+use Rattle.fs_quadratic.specs.declared.steps.Place.{Place}
 use Rattle.fs_plane.specs.Vector.{PlaneVector, cross, dot, norm}
-use Rattle.fs_plane.specs.Checked.{shifted, IsFirstOfThree}
+use Rattle.fs_quadratic.specs.Checked.{shifted, IsFirstOfThree}
 use Rattle.fs_plane.specs.Formulas.{cross_after, dot_after, norm_after, CrossFits, DotFits}
-use Rattle.fs_plane.proofs.Steps.{chain_ok, chain_stops, chain-shifted}
+use Rattle.fs_quadratic.proofs.StepChains.{chain_ok, chain_stops, chain-shifted}
 
 module _ (before d : ℕ) (a b : PlaneVector) where
   -- ---- the cross product

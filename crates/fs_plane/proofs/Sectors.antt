@@ -8,37 +8,14 @@ use Rattle.fs_quadratic.specs.Radicand.{IsRadicand}
 use Rattle.fs_quadratic.specs.Ring.{Quadratic, IsPositive, sign}
 use Rattle.fs_quadratic.proofs.SquareRoot.{radicand_no_square}
 use Rattle.fs_quadratic.proofs.Signs.{sign-positive, sign-zero, positive_of_sign, zero_of_sign}
-use Rattle.fs_plane.specs.declared.sites.Place.{Place}
-use Rattle.fs_plane.specs.Checked.{◌>>=◌}
+use Rattle.fs_quadratic.specs.declared.steps.Place.{Place}
+use Rattle.fs_quadratic.specs.Checked.{◌>>=◌}
 use Rattle.fs_plane.specs.Formulas.{cross_after, dot_after, is_above_zero, by_turn, in_sector_after}
 use Rattle.fs_plane.specs.Vector.{PlaneVector, vector_neg, cross, dot, IsInSector}
 use Rattle.fs_plane.proofs.FormulaLaws.{cross_value, dot_value}
-
-greater_of : (o : Ordering) → IsTrue (is_gt o) → o ≡ Greater
-greater_of Less h = cc
-greater_of Equal h = cc
-greater_of Greater h = refl
-
--- what follows a value is reached through it
-after_value : {A B : Type 0} (computed : Result A Place) (next : A → Result B Place) (y : B) → computed >>= next ≡ Ok y → (x : A) × (computed ≡ Ok x) × (next x ≡ Ok y)
-after_value (Ok x) next y e = (x, refl, e)
-after_value (Err stop) next y e = absurd cc
-
-same_answer : (a b : Bool) → ◌≡◌ {A = Result Bool Place} (Ok a) (Ok b) → b ≡ a
-same_answer a b e = cc
+use Rattle.fs_plane.proofs.ComputedSigns.{after_value, same_answer, above_zero}
 
 module _ {d : ℕ} (radicand : IsRadicand d) where
-  -- the test of a number's sign says whether it is above 0
-  above_zero : (computed : Result Quadratic Place) (value : Quadratic) → ((x : Quadratic) → computed ≡ Ok x → x ≡ value) → (held : Bool) → is_above_zero d computed ≡ Ok held
-      → IsTrue held ↔ IsPositive d value
-  above_zero computed value exact held e =
-      let found = after_value computed (λ x. Ok (is_gt (sign d x))) held e in
-      let is_value = exact found.0 found.1 in
-      let is_held = same_answer (is_gt (sign d found.0)) held found.2 in (
-        (λ h. subst (IsPositive d) is_value (positive_of_sign (radicand_no_square radicand) found.0 (greater_of (sign d found.0) (sym is_held ∙ h)))),
-        (λ h. is_held ∙ ap is_gt (sign-positive d found.0 (subst (IsPositive d) (sym is_value) h))),
-      )
-
   module _ (before : ℕ) (outgoing incoming v : PlaneVector) where
     abbrev along : Result Bool Place
     along = is_above_zero d (dot_after (before + 3) d outgoing v)
@@ -67,7 +44,7 @@ module _ {d : ℕ} (radicand : IsRadicand d) where
         not_greater : Less ≡ Greater → ⊥
         not_greater f = cc
     by_sign Equal s held e =
-        let both = above_zero (dot_after (before + 3) d outgoing v) (dot d outgoing v) (λ x is. dot_value (before + 3) d outgoing v x is) held e in (
+        let both = above_zero radicand (dot_after (before + 3) d outgoing v) (dot d outgoing v) (λ x is. dot_value (before + 3) d outgoing v x is) held e in (
           (λ h. at_start (record { parallel = zero_of_sign (radicand_no_square radicand) turn s; same_way = both.0 h })),
           (λ i. elim i [
             | at_start a ↦ both.1 a.same_way
@@ -78,7 +55,7 @@ module _ {d : ℕ} (radicand : IsRadicand d) where
         not_greater : Equal ≡ Greater → ⊥
         not_greater f = cc
     by_sign Greater s held e =
-        let both = above_zero (cross_after (before + 6) d v (vector_neg incoming)) (cross d v (vector_neg incoming)) (λ x is. cross_value (before + 6) d v (vector_neg incoming) x is) held e in (
+        let both = above_zero radicand (cross_after (before + 6) d v (vector_neg incoming)) (cross d v (vector_neg incoming)) (λ x is. cross_value (before + 6) d v (vector_neg incoming) x is) held e in (
           (λ h. inside (positive_of_sign (radicand_no_square radicand) turn s) (both.0 h)),
           (λ i. elim i [
             | at_start a ↦ absurd (not_equal (sym s ∙ sign-zero d turn a.parallel))

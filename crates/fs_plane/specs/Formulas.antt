@@ -1,13 +1,13 @@
 -- The formulas of the plane as checked computations. Their places follow those of the steps before them.
-use Rattle.std.specs.Prelude.{ℕ, ◌+◌, Bool, false, Result, Ok}
+use Rattle.std.specs.Prelude.{ℕ, ◌+◌, Bool, true, false, Result, Ok}
 use Rattle.std.specs.Ordering.{is_gt}
 use Rattle.std.specs.declared.cmp.Ordering.{Ordering}
 use Rattle.std.specs.declared.cmp.Ordering.TheVariants.{Less, Equal, Greater}
 use Rattle.fs_quadratic.specs.Ring.{Quadratic, sign}
 use Rattle.fs_quadratic.specs.Width.{Fits, MulFits}
-use Rattle.fs_plane.specs.declared.sites.Place.{Place}
+use Rattle.fs_quadratic.specs.declared.steps.Place.{Place}
 use Rattle.fs_plane.specs.Vector.{PlaneVector, vector_neg, cross, dot}
-use Rattle.fs_plane.specs.Checked.{◌>>=◌, checked_product, checked_sum, checked_difference}
+use Rattle.fs_quadratic.specs.Checked.{◌>>=◌, checked_product, checked_sum, checked_difference}
 
 -- a.x·b.y - a.y·b.x
 unfoldable pub cross_after : ℕ → ℕ → PlaneVector → PlaneVector → Result Quadratic Place
@@ -42,6 +42,19 @@ unfoldable pub in_sector_after : ℕ → ℕ → PlaneVector → PlaneVector →
 in_sector_after before d outgoing incoming v = do
   turn ← cross_after before d outgoing v
   by_turn (sign d turn) (is_above_zero d (dot_after (before + 3) d outgoing v)) (is_above_zero d (cross_after (before + 6) d v (vector_neg incoming)))
+
+-- by the sign of the cross product of the sides at a corner, and whether straight corners are allowed: left of the first side the corner is convex, right of it it isn't, and on its line the dot product decides, where that is asked
+abbrev pub by_bend : Bool → Ordering → (along : Result Bool Place) → Result Bool Place
+by_bend straight Greater along = Ok true
+by_bend straight Less along = Ok false
+by_bend true Equal along = along
+by_bend false Equal along = Ok false
+
+-- whether a polygon may have a corner with these sides
+unfoldable pub is_convex_after : ℕ → Bool → ℕ → PlaneVector → PlaneVector → Result Bool Place
+is_convex_after before straight d a b = do
+  turn ← cross_after before d a b
+  by_bend straight (sign d turn) (is_above_zero d (dot_after (before + 3) d a b))
 
 -- all numbers of the cross product are within the width
 abbrev pub CrossFits : ℕ → PlaneVector → PlaneVector → Type 0

@@ -1,3 +1,2 @@
 pub mod Vector
-pub mod Checked
 pub mod Formulas

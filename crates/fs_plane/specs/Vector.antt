@@ -5,7 +5,7 @@ use Rattle.std.specs.declared.cmp.Ordering.{Ordering}
 use Rattle.std.specs.declared.cmp.Ordering.TheVariants.{Less, Equal, Greater}
 use Rattle.fs_ring.specs.Vector as plane
 use Rattle.fs_ring.specs.Vector.{Vector}
-use Rattle.fs_ring.specs.Direction.{InSector}
+use Rattle.fs_ring.specs.Direction.{InSector, InHalfPlane}
 use Rattle.fs_quadratic.specs.Ring.{Quadratic, quadratic, zero, one, add, neg, sign, IsPositive}
 use Rattle.fs_quadratic.specs.Width.{IsSmall}
 
@@ -52,6 +52,19 @@ dot d a b = plane.dot (quadratic d) a b
 -- v is in the sector of a corner, which runs counterclockwise from the side that begins there, included, to the opposite of the side that ends there, excluded
 abbrev pub IsInSector : ℕ → PlaneVector → PlaneVector → PlaneVector → Type 0
 IsInSector d outgoing incoming v = InSector (quadratic d) (IsPositive d) outgoing (vector_neg incoming) v
+
+-- a corner at which a polygon's boundary comes along a and leaves along b is strictly convex: its angle is less than π
+abbrev pub IsStrictlyConvex : ℕ → PlaneVector → PlaneVector → Type 0
+IsStrictlyConvex d a b = IsPositive d (cross d a b)
+
+-- it doesn't bend right: it is strictly convex, or straight, where b is along a and its angle is π
+abbrev pub BendsNoRight : ℕ → PlaneVector → PlaneVector → Type 0
+BendsNoRight d a b = InHalfPlane (quadratic d) (IsPositive d) a b
+
+-- a polygon may have such a corner, by whether straight corners are allowed
+abbrev pub IsAllowedCorner : Bool → ℕ → PlaneVector → PlaneVector → Type 0
+IsAllowedCorner true d a b = BendsNoRight d a b
+IsAllowedCorner false d a b = IsStrictlyConvex d a b
 
 -- the squared length
 abbrev pub norm : ℕ → PlaneVector → Quadratic

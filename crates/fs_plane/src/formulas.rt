@@ -1,11 +1,10 @@
 ghost use Rattle.std.specs.Prelude.{◌≡◌, ◌+◌, ◌<◌, ◌^◌, ◌↔◌, IfOk, IsTrue};
-ghost use Rattle.fs_plane.specs.Checked.{checked_product, checked_sum, checked_difference};
-ghost use Rattle.fs_plane.specs.Formulas.{cross_after, dot_after, norm_after, in_sector_after, is_above_zero};
-ghost use Rattle.fs_plane.specs.Vector.{IsSmallVector, IsInSector, cross, dot, norm};
+ghost use Rattle.fs_plane.specs.Formulas.{cross_after, dot_after, norm_after, in_sector_after, is_convex_after, is_above_zero};
+ghost use Rattle.fs_plane.specs.Vector.{IsSmallVector, IsInSector, IsAllowedCorner, cross, dot, norm};
 
-use crate::sites::Place;
 use crate::vector::V2;
-use fs_quadratic::{Elem, Field};
+use fs_quadratic::steps::{difference_at, product_at, sum_at};
+use fs_quadratic::{Elem, Field, Place};
 use std::cmp::Ordering;
 
 /// The cross product a.x·b.y - a.y·b.x, or the first place that overflows: place 1 is
@@ -110,6 +109,39 @@ fn test_sector(field: Field, out: V2, incoming: V2, v: V2) -> Result<bool, Place
     }
 }
 
+/// Whether a corner with the sides a, which ends there, and b, which begins there, is strictly
+/// convex, or also straight, where straight corners are allowed: then b is along a. A side 0,0 makes
+/// no such corner.
+///
+/// Places 1 to 3 are the cross product of a and b, which is above 0 at a strictly convex corner.
+/// Places 4 to 6 are their dot product, where the cross product is 0 and straight corners are
+/// allowed. The error is the first place that overflows, where one does.
+pub fn is_convex(field: Field, straight: bool, a: V2, b: V2) -> Result<bool, Place>
+    ensures formula { result ≡ is_convex_after 0 straight field.d a b }
+    ensures convex { IfOk result (λ held. IsTrue held ↔ IsAllowedCorner straight field.d a b) }
+{
+    test_convex(field, straight, a, b)
+}
+
+// The convexity test by its formula alone.
+#[tactic(auto, unfolding(crate::specs::Formulas::is_convex_after))]
+fn test_convex(field: Field, straight: bool, a: V2, b: V2) -> Result<bool, Place>
+    ensures { result ≡ is_convex_after 0 straight field.d a b }
+{
+    let turn = cross_after(0, field, a, b)?;
+    match field.sign(turn) {
+        Ordering::Greater => Ok(true),
+        Ordering::Less => Ok(false),
+        Ordering::Equal => {
+            if straight {
+                is_along(field, a, b)
+            } else {
+                Ok(false)
+            }
+        }
+    }
+}
+
 // Whether a parallel vector points the same way.
 fn is_along(field: Field, a: V2, b: V2) -> Result<bool, Place>
     ensures { result ≡ is_above_zero field.d (dot_after 3 field.d a b) }
@@ -144,22 +176,4 @@ fn dot_small(field: Field, a: V2, b: V2) -> Elem
 {
     let left = field.mul_small(a.x, b.x);
     left.add_fitting(field.mul_small(a.y, b.y))
-}
-
-fn product_at(place: u32, field: Field, x: Elem, y: Elem) -> Result<Elem, Place>
-    ensures { result ≡ checked_product field.d place x y }
-{
-    field.mul(x, y).map_err(|_| Place(place))
-}
-
-fn sum_at(place: u32, x: Elem, y: Elem) -> Result<Elem, Place>
-    ensures { result ≡ checked_sum place x y }
-{
-    x.add(y).map_err(|_| Place(place))
-}
-
-fn difference_at(place: u32, x: Elem, y: Elem) -> Result<Elem, Place>
-    ensures { result ≡ checked_difference place x y }
-{
-    x.sub(y).map_err(|_| Place(place))
 }

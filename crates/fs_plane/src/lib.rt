@@ -7,6 +7,7 @@ mod sites;
 mod vector;
 
 pub use corners::Corner;
-pub use formulas::{cross, dot, in_sector, norm};
-pub use sites::{Place, Site, Stop};
+pub use formulas::{cross, dot, in_sector, is_convex, norm};
+pub use fs_quadratic::Place;
+pub use sites::{Site, Stop};
 pub use vector::V2;

@@ -3,10 +3,6 @@ ghost use Rattle.fs_plane.specs.declared.sites.Site.{Site};
 
 use crate::corners::Corner;
 
-/// The number, from 1, of the operation of a formula that overflows.
-#[derive(Clone, Copy, Debug, PartialEq, Eq, PartialOrd, Ord, Hash)]
-pub struct Place(pub u32);
-
 /// Where a computation overflows: a formula, what it was applied to, and the place in it. The
 /// numbers are in the order in which they are printed.
 #[derive(Clone, Copy, Debug, PartialEq, Eq, Hash)]

@@ -10,3 +10,4 @@ pub mod Excess
 pub mod RootOrder
 pub mod Comparison
 pub mod WidthTests
+pub mod StepChains

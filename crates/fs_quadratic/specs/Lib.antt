@@ -1,4 +1,5 @@
 pub mod Ring
 pub mod Width
+pub mod Checked
 pub mod Radicand
 pub mod CompleteQuotient

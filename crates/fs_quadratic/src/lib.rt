@@ -6,7 +6,9 @@ mod element;
 mod order;
 mod product;
 mod radicand;
+pub mod steps;
 pub mod width;
 
 pub use element::{Elem, Op};
 pub use radicand::{BadField, Field};
+pub use steps::Place;

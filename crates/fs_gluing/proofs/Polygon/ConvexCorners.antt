@@ -13,9 +13,9 @@ use Rattle.fs_quadratic.proofs.Signs.{sign-positive, positive_of_sign}
 use Rattle.fs_quadratic.proofs.SquareRoot.{radicand_no_square}
 use Rattle.fs_plane.specs.declared.sites.Site.{Site}
 use Rattle.fs_plane.specs.declared.corners.Corner.{Corner}
-use Rattle.fs_plane.specs.declared.sites.Place.{Place}
+use Rattle.fs_quadratic.specs.declared.steps.Place.{Place}
 use Rattle.fs_plane.specs.declared.sites.Site.TheVariants as sites
-use Rattle.fs_plane.specs.Checked.{place, IsFirstOfThree, first, second, third}
+use Rattle.fs_quadratic.specs.Checked.{place, IsFirstOfThree, first, second, third}
 use Rattle.fs_plane.specs.Formulas.{cross_after}
 use Rattle.fs_plane.specs.Vector.{vector_zero, cross, PlaneVector}
 use Rattle.fs_plane.proofs.FormulaLaws.{cross_value, cross_stops}

@@ -20,11 +20,11 @@ use Rattle.fs_quadratic.specs.Width.{Fits, is_fitting}
 use Rattle.fs_quadratic.proofs.Laws.{quadratic_ring}
 use Rattle.fs_quadratic.proofs.WidthTests.{Decides-is_fitting}
 use Rattle.fs_plane.specs.declared.corners.Corner.{Corner}
-use Rattle.fs_plane.specs.declared.sites.Place.{Place}
+use Rattle.fs_quadratic.specs.declared.steps.Place.{Place}
 use Rattle.fs_plane.specs.declared.sites.Site.{Site}
 use Rattle.fs_plane.specs.declared.sites.Site.TheVariants as sites
 use Rattle.fs_plane.specs.Vector.{vector_zero, cross, PlaneVector}
-use Rattle.fs_plane.specs.Checked.{◌>>=◌, checked_sum, step}
+use Rattle.fs_quadratic.specs.Checked.{◌>>=◌, checked_sum, step}
 use Rattle.fs_plane.specs.Formulas.{cross_after}
 use Rattle.fs_plane.proofs.FormulaLaws.{cross_value}
 use Rattle.fs_gluing.specs.Limits.{most_sides}

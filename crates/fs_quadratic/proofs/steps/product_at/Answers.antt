@@ -2,8 +2,8 @@ use Rattle.std.proofs.Common.{rules}
 use Rattle.fs_quadratic.specs.Ring.{mul}
 use Rattle.fs_quadratic.specs.Width.{MulFits, is_fitting_mul}
 use Rattle.fs_quadratic.proofs.WidthTests.{Decides-is_fitting_mul}
-use Rattle.fs_plane.proofs.Steps.{step_of_call}
-use Rattle.fs_plane.proofs.formulas.product_at.Goals as goal
+use Rattle.fs_quadratic.proofs.StepChains.{step_of_call}
+use Rattle.fs_quadratic.proofs.steps.product_at.Goals as goal
 
 pub returns : goal.returns
 returns c =

@@ -2,7 +2,7 @@
 use Rattle.std.specs.Prelude.{◌≡◌, ℕ, ◌+◌, Bool, cond, Result, Ok, Err}
 use Rattle.fs_quadratic.specs.Ring.{Quadratic, add, sub, mul}
 use Rattle.fs_quadratic.specs.Width.{is_fitting, is_fitting_mul}
-use Rattle.fs_plane.specs.declared.sites.Place.{Place}
+use Rattle.fs_quadratic.specs.declared.steps.Place.{Place}
 
 abbrev pub place : ℕ → Place
 place n = record { 0 = n }

@@ -2,8 +2,8 @@
 use Rattle.std.proofs.Common.{◌≡◌, ℕ, ◌+◌, Bool, true, false, cond, Result, Ok, Err, refl, sym, ap, ◌∙◌, subst, ◌↔◌}
 use Rattle.std.specs.Bool.{Decides}
 use Rattle.std.specs.Result.{OkIff, MatchResult}
-use Rattle.fs_plane.specs.declared.sites.Place.{Place}
-use Rattle.fs_plane.specs.Checked.{place, step, shifted, ◌>>=◌, IsFirstOfThree, first, second, third}
+use Rattle.fs_quadratic.specs.declared.steps.Place.{Place}
+use Rattle.fs_quadratic.specs.Checked.{place, step, shifted, ◌>>=◌, IsFirstOfThree, first, second, third}
 
 false_not_true : false ≡ true → ⊥
 false_not_true e = cc
