@@ -1,4 +1,4 @@
--- Bytes have at most one stop_of.
+-- Bytes have at most one answer.
 use Rattle.std.proofs.Common.{◌≡◌, ◌<◌, ◌≤◌, ℕ, List, length, sym, ap, ◌∙◌, subst, arith}
 use Rattle.std.specs.List.{AllByRecursion}
 use Rattle.fs_io.specs.Whole.{most_bytes}
@@ -42,9 +42,9 @@ texts_along a b s t output r e of_s of_t all texts =
     subst (λ (u : GluedPolygons). HasStatus (AnswersAll u a.commands) output r) same
     (subst (λ (j : Draft). HasStatus (AnswersAll t j.commands) output r) (sym e) texts)
 
--- ---- what an stop_of is, for each reason
+-- ---- what an answer is, for each reason
 
--- bytes that are too many have this stop_of only
+-- bytes that are too many have this answer only
 pub only_long : (bytes : List ℕ) → most_bytes < length bytes → (output : List ℕ) (r : Status) → IsAnswered bytes output r → IsThisText (fault_line TooLong) status.Refused output r
 only_long bytes many output r (too_long a s e) = (e, s)
 only_long bytes many output r (no_job n a fault s e) = absurd (omega arith)
@@ -52,7 +52,7 @@ only_long bytes many output r (not_built j k a reads first s e) = absurd (omega 
 only_long bytes many output r (answered j u p a reads surface shape all texts s) = absurd (omega arith)
 
 module _ (law : JobLaw) (bytes : List ℕ) where
-  -- bytes with a first fault have this stop_of only
+  -- bytes with a first fault have this answer only
   pub only_fault : (fault : Fault) → length bytes ≤ most_bytes → IsFirstFault bytes fault → (output : List ℕ) (r : Status) → IsAnswered bytes output r
       → IsThisText (fault_line fault) status.Refused output r
   only_fault n few fault output r (too_long a s e) = absurd (omega arith)
@@ -60,7 +60,7 @@ module _ (law : JobLaw) (bytes : List ℕ) where
   only_fault n few fault output r (not_built j k a reads first s e) = absurd (law.not_both bytes j n reads fault)
   only_fault n few fault output r (answered j u p a reads surface shape all texts s) = absurd (law.not_both bytes j n reads fault)
 
-  -- a job whose shape fails a test has this stop_of only
+  -- a job whose shape fails a test has this answer only
   pub only_stop : (draft : Draft) (test : Test) → length bytes ≤ most_bytes → IsJob bytes draft → IsFirstFailure draft.d (draft_shape draft) test → (output : List ℕ) (r : Status)
       → IsAnswered bytes output r → IsThisText (stop_line (stop_of test)) (stop_status (stop_of test)) output r
   only_stop j k few reads first output r (too_long a s e) = absurd (omega arith)

@@ -24,7 +24,7 @@ use Rattle.fs_cli.specs.Answer.{IsAnswered, no_job, not_built, answered, BeginsE
 use Rattle.fs_cli.specs.Writing.{Writes, IsThisText, HasStatus}
 use Rattle.fs_cli.proofs.AnsweredUnique.{JobLaw, only_long, only_fault, only_stop, only_texts}
 
--- each stop_of begins with the empty text
+-- each answer begins with the empty text
 pub nothing_begins : (old held : Option (List ℕ)) → IfSome old (λ bytes. (prefix : List ℕ) × BeginsEach (IsAnswered bytes) prefix × Appends held held prefix)
 nothing_begins None held = tt
 nothing_begins (Some bytes) held = ([], λ output result answered. (output, refl), Appends-nil held)

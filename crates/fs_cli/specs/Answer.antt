@@ -1,4 +1,4 @@
--- The whole stop_of to the bytes of a job: what is written, and the status.
+-- The whole answer to the bytes of a job: what is written, and the status.
 use Rattle.std.specs.Prelude.{◌≡◌, ℕ, ◌<◌, ◌≤◌, Bool, false, ◌||◌, if◌then◌else◌, List, [], ◌∷◌, ◌++◌, length}
 use Rattle.std.specs.List.{AllByRecursion}
 use Rattle.fs_io.specs.Whole.{most_bytes}
@@ -33,11 +33,11 @@ stop_status stops.NoMemory = status.NoMemory
 abbrev pub draft_shape : Draft → Shape
 draft_shape draft = record { polygons = draft.polygons; glues = draft.glues }
 
--- the status of a text, by whether it is in place of a whole stop_of
+-- the status of a text, by whether it is in place of a whole answer
 abbrev pub status_of : Bool → Status
 status_of partial = if partial then status.Partial else status.Done
 
--- the one stop_of and the other after it, partial where one of them is
+-- the one answer and the other after it, partial where one of them is
 pub record AreJoined (One Other : List ℕ → Bool → Type 0) (output : List ℕ) (partial : Bool) : Type 0 where
   pub prefix : List ℕ
   pub rest : List ℕ
@@ -77,7 +77,7 @@ exit_code status.ReadFault = 4
 exit_code status.WriteFault = 5
 exit_code status.NoMemory = 6
 
--- the whole stop_of was given
+-- the whole answer was given
 abbrev pub IsWhole : Status → Type 0
 IsWhole status.Done = Unit {0}
 IsWhole status.Refused = Unit {0}
@@ -87,7 +87,7 @@ IsWhole status.ReadFault = ⊥
 IsWhole status.WriteFault = ⊥
 IsWhole status.NoMemory = ⊥
 
--- the stop_of broke off
+-- the answer broke off
 abbrev pub IsBroken : Status → Type 0
 IsBroken status.WriteFault = Unit {0}
 IsBroken status.NoMemory = Unit {0}

@@ -155,7 +155,7 @@ fn wide_areas(rt: HostRuntime) -> Result<(), Fail> {
 
 // The commands after an area that overflows are answered all the same.
 #[test]
-fn commands_behind_a_wide_area(rt: HostRuntime) -> Result<(), Fail> {
+fn commands_after_an_area_that_overflows(rt: HostRuntime) -> Result<(), Fail> {
     expect(
         &rt,
         rt.alloc(),
