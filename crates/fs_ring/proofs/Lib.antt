@@ -8,5 +8,6 @@ pub mod PlaneSolver
 pub mod Plane
 pub mod Directions
 pub mod HalfPlanes
+pub mod Turns
 pub mod Hinges
 pub mod Integers
