@@ -1,0 +1,81 @@
+-- How many numbers pass a test, and where a sequence of tests changes. A library for crates to come.
+use Rattle.std.proofs.Common.{◌≡◌, ℕ, zero, suc, ◌+◌, ◌<◌, ◌≤◌, ◌⊎◌, Bool, true, false, refl, sym, ap, ◌∙◌, inl, inr, arith, add-zero, add-suc, add_comm}
+use Rattle.std.proofs.lemmas.Bool.{cases_Bool}
+use Rattle.fs_lists.proofs.Counts.{one_if}
+use Rattle.fs_convex.specs.Counts.{count_below}
+
+-- tests that agree count the same
+pub count_below-agree : (f g : ℕ → Bool) (k : ℕ) → ((j : ℕ) → j < k → f j ≡ g j) → count_below f k ≡ count_below g k
+count_below-agree f g zero h = refl
+count_below-agree f g (suc k) h =
+    let rest = count_below-agree f g k (λ j l. h j (omega arith)) in
+    let last : one_if (f k) ≡ one_if (g k) = ap one_if (h k (omega arith)) in
+    omega arith
+
+-- the numbers below a, and then the next k
+pub count_below-add : (f : ℕ → Bool) (a k : ℕ) → count_below f (a + k) ≡ count_below f a + count_below (λ j. f (a + j)) k
+count_below-add f a zero = ap (count_below f) (add-zero a) ∙ sym (add-zero (count_below f a))
+count_below-add f a (suc k) =
+    let rest = count_below-add f a k in
+    let next : count_below f (a + suc k) ≡ count_below f (a + k) + one_if (f (a + k)) = ap (count_below f) (add-suc a k) in
+    omega arith
+
+-- no matter where n numbers begin, where the test repeats after n
+pub count_below-shift : (f : ℕ → Bool) (n a : ℕ) → ((j : ℕ) → f (n + j) ≡ f j) → count_below (λ j. f (a + j)) n ≡ count_below f n
+count_below-shift f n a h =
+    let e = count_below-add f n a in
+    let g = count_below-add f a n in
+    let same : count_below f (n + a) ≡ count_below f (a + n) = ap (count_below f) (add_comm n a) in
+    let period = count_below-agree (λ j. f (n + j)) f a (λ j l. h j) in
+    omega arith
+
+-- more numbers, no fewer that pass
+pub count_below_at_most : (f : ℕ → Bool) (a k : ℕ) → a ≤ k → count_below f a ≤ count_below f k
+count_below_at_most f a zero h = let e : a ≡ 0 = omega arith in let d : count_below f a ≡ count_below f 0 = ap (count_below f) e in omega arith
+count_below_at_most f a (suc k) h = go (split a k h) (λ l. count_below_at_most f a k l)
+  where
+    split : (a k : ℕ) → a ≤ suc k → (a ≡ suc k) ⊎ (a ≤ k)
+    split a k h = grind arith
+
+    go : (a ≡ suc k) ⊎ (a ≤ k) → (a ≤ k → count_below f a ≤ count_below f k) → count_below f a ≤ count_below f (suc k)
+    go (inl e) before = let d : count_below f a ≡ count_below f (suc k) = ap (count_below f) e in omega arith
+    go (inr l) before = let rest = before l in omega arith
+
+count_passed : (f : ℕ → Bool) (i k : ℕ) → i < k → f i ≡ true → count_below f i + 1 ≤ count_below f k
+count_passed f i k l e =
+    let here : one_if (f i) ≡ 1 = ap one_if e in
+    let rest = count_below_at_most f (suc i) k (omega arith) in
+    omega arith
+
+-- where one number passes, two that pass are equal
+pub one_passes : (f : ℕ → Bool) (i j n : ℕ) → count_below f n ≡ 1 → i < n → j < n → f i ≡ true → f j ≡ true → i ≡ j
+one_passes f i j n once li lj ei ej = go (three i j)
+  where
+    three : (i j : ℕ) → (i < j) ⊎ ((i ≡ j) ⊎ (j < i))
+    three i j = grind arith
+
+    go : (i < j) ⊎ ((i ≡ j) ⊎ (j < i)) → i ≡ j
+    go (inl l) = let a = count_passed f i j l ei in let b = count_passed f j n lj ej in absurd (omega arith)
+    go (inr (inl e)) = e
+    go (inr (inr l)) = let a = count_passed f j i l ej in let b = count_passed f i n li ei in absurd (omega arith)
+
+-- where the count isn't 0, some number passes
+pub some_passes : (f : ℕ → Bool) (k : ℕ) → 0 < count_below f k → (l : ℕ) × (l < k) × (f l ≡ true)
+some_passes f zero h = absurd (omega arith)
+some_passes f (suc k) h =
+    elim (cases_Bool (f k)) [
+      | inl e ↦ (k, omega arith, e)
+      | inr e ↦
+          let here : one_if (f k) ≡ 0 = ap one_if e in
+          let rest = some_passes f k (omega arith) in
+          (rest.0, omega (arith, rest.1), rest.2)
+    ]
+
+-- where a sequence isn't true at first, and is later, it changes to true between
+pub change_between : (b : ℕ → Bool) (a k : ℕ) → b a ≡ false → b (a + k) ≡ true → (l : ℕ) × (a ≤ l) × (l < a + k) × (b l ≡ false) × (b (suc l) ≡ true)
+change_between b a zero e f = absurd (let g = ap b (add-zero a) in cc)
+change_between b a (suc k) e f =
+    elim (cases_Bool (b (a + k))) [
+      | inl g ↦ let rest = change_between b a k e g in (rest.0, rest.1, omega (arith, rest.2), rest.3, rest.4)
+      | inr g ↦ (a + k, omega arith, omega arith, g, sym (ap b (add-suc a k)) ∙ f)
+    ]

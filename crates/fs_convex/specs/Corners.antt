@@ -1,0 +1,25 @@
+-- Corners between a side and the next one, seen from a direction.
+use Rattle.std.specs.Prelude.{◌≡◌, ℕ, suc, Bool, true, ◌&&◌}
+use Rattle.fs_ring.specs.Operations.{Operations}
+use Rattle.fs_ring.specs.Vector.{Vector, neg_vector}
+use Rattle.fs_ring.specs.Direction.{InHalfPlane}
+use Rattle.fs_convex.specs.Counts.{count_below}
+
+module _ {A : Type 0} (R : Operations A) (IsPositive : A → Type 0) where
+  -- the test is true of v and x exactly where x is in the half plane of v
+  pub record DecidesHalfPlanes (is_ahead : Vector A → Vector A → Bool) : Type 0 where
+    pub sound : (v x : Vector A) → is_ahead v x ≡ true → InHalfPlane R IsPositive v x
+    pub complete : (v x : Vector A) → InHalfPlane R IsPositive v x → is_ahead v x ≡ true
+
+  -- no corner bends right: each side is in the half plane of the side before it
+  abbrev pub HasConvexCorners : (ℕ → Vector A) → Type 0
+  HasConvexCorners s = (j : ℕ) → InHalfPlane R IsPositive (s j) (s (suc j))
+
+module _ {A : Type 0} (R : Operations A) (is_ahead : Vector A → Vector A → Bool) where
+  -- the corner from x to y passes v: x is in the half plane of -v, and y in that of v
+  abbrev pub is_rise : Vector A → Vector A → Vector A → Bool
+  is_rise v x y = is_ahead (neg_vector R v) x && is_ahead v y
+
+  -- how many of the first k corners pass v
+  abbrev pub rises : Vector A → (ℕ → Vector A) → ℕ → ℕ
+  rises v s k = count_below (λ j. is_rise v (s j) (s (suc j))) k

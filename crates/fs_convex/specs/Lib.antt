@@ -1,0 +1,3 @@
+pub mod Counts
+pub mod Corners
+pub mod Polygon

@@ -1,0 +1,24 @@
+-- Convex polygons as endless boundaries: the sides and the vertices repeat after n.
+use Rattle.std.specs.Prelude.{◌≡◌, ℕ, zero, suc, ◌+◌, Bool}
+use Rattle.fs_ring.specs.Operations.{Operations}
+use Rattle.fs_ring.specs.Vector.{Vector, unit_vector, add_vector}
+use Rattle.fs_convex.specs.Corners.{HasConvexCorners, rises}
+
+module _ {A : Type 0} (R : Operations A) where
+  -- the vertex at the start of side k, where the first one is p
+  abbrev pub position : Vector A → (ℕ → Vector A) → ℕ → Vector A
+  position p s zero = p
+  position p s (suc k) = add_vector R (position p s k) (s k)
+
+  -- q are the vertices between the sides s
+  abbrev pub HasSides : (ℕ → Vector A) → (ℕ → Vector A) → Type 0
+  HasSides q s = (j : ℕ) → q (suc j) ≡ add_vector R (q j) (s j)
+
+  module _ (IsPositive : A → Type 0) (is_ahead : Vector A → Vector A → Bool) where
+    -- a convex polygon with the sides s and the vertices q, n of each: straight corners are allowed
+    pub record IsConvexPolygon (n : ℕ) (s q : ℕ → Vector A) : Type 0 where
+      pub convex : HasConvexCorners R IsPositive s
+      pub repeats : (j : ℕ) → s (n + j) ≡ s j
+      pub sides : HasSides q s
+      pub closed : q n ≡ q 0
+      pub turning_number : rises R is_ahead (unit_vector R) s n ≡ 1
