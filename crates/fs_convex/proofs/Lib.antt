@@ -1,2 +1,4 @@
 pub mod Counts
 pub mod Rises
+pub mod Positions
+pub mod Winding

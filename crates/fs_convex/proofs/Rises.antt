@@ -203,13 +203,13 @@ module _ {A : Type 0} {R : Operations A} {IsPositive : A → Type 0} (L : IsOrde
     -- ---- one corner from two directions
 
     -- 1 where x is in the sector from v to w
-    abbrev pub between : Vector A → Vector A → Vector A → ℕ
-    between v w x = one_if (is_ahead v x && not (is_ahead w x))
+    abbrev pub in_sector : Vector A → Vector A → Vector A → ℕ
+    in_sector v w x = one_if (is_ahead v x && not (is_ahead w x))
 
     -- a turn that passes v comes into the sector from v to w, and one that passes w leaves it
-    pub rise_between : {v w x y : Vector A} → IsPositive (cross R v w) → HalfPlane x y
-        → between v w y + one_if (rise w x y) ≡ between v w x + one_if (rise v x y)
-    rise_between {v} {w} {x} {y} vw xy =
+    pub rise_of_sector : {v w x y : Vector A} → IsPositive (cross R v w) → HalfPlane x y
+        → in_sector v w y + one_if (rise w x y) ≡ in_sector v w x + one_if (rise v x y)
+    rise_of_sector {v} {w} {x} {y} vw xy =
         let mv = directions.cross_positive-ne-zero_left L vw in
         let mw = directions.cross_positive-ne-zero_right L vw in
         let nx = first_ray-ne-zero xy in
@@ -222,12 +222,12 @@ module _ {A : Type 0} {R : Operations A} {IsPositive : A → Type 0} (L : IsOrde
         (λ a b c d. turns.no_turn_back L wv (test.sound w x b) (half_plane_neg-neg (test.sound v x a)) (half_plane_of_not_ahead mw ny d) (half_plane_neg-neg (test.sound v y c)) xy)
         (λ a b c d. turns.no_turn_back L opposite (half_plane_of_not_ahead mv nx a) (half_plane_neg-neg (test.sound w x b)) (half_plane_neg-neg (test.sound v y c)) (half_plane_neg-neg (test.sound w y d)) xy)
         (λ a b c d. turns.no_turn_back L last (half_plane_of_not_ahead mw nx b) (half_plane_of_not_ahead mv nx a) (half_plane_neg-neg (test.sound w y d)) (half_plane_of_not_ahead mv ny c) xy) in
-        ap (λ b. between v w y + one_if b) (is_rise-ahead w x y mw nx) ∙ table ∙ sym (ap (λ b. between v w x + one_if b) (is_rise-ahead v x y mv nx))
+        ap (λ b. in_sector v w y + one_if b) (is_rise-ahead w x y mw nx) ∙ table ∙ sym (ap (λ b. in_sector v w x + one_if b) (is_rise-ahead v x y mv nx))
 
     -- a turn that passes v comes into the half plane of v, and one that passes -v leaves it
-    pub rise_opposite : {v x y : Vector A} → v ≢ zero_vector R → HalfPlane x y
+    pub rise_of_opposite : {v x y : Vector A} → v ≢ zero_vector R → HalfPlane x y
         → one_if (is_ahead v y) + one_if (rise (neg_vector R v) x y) ≡ one_if (is_ahead v x) + one_if (rise v x y)
-    rise_opposite {v} {x} {y} m xy =
+    rise_of_opposite {v} {x} {y} m xy =
         let nx = first_ray-ne-zero xy in
         let ny = half_planes.half_plane-ne-zero L xy in
         ap (λ b. one_if (is_ahead v y) + one_if b) (is_rise-ahead (neg_vector R v) x y (neg_vector-ne-zero m) nx ∙ (λ i. not (is_ahead-neg_left v x m nx i) && is_ahead-neg_left v y m ny i))
