@@ -1,5 +1,5 @@
 -- How many numbers pass a test, and where a sequence of tests changes. A library for crates to come.
-use Rattle.std.proofs.Common.{◌≡◌, ℕ, zero, suc, ◌+◌, ◌<◌, ◌≤◌, ◌⊎◌, Bool, true, false, refl, sym, ap, ◌∙◌, inl, inr, arith, add-zero, add-suc, add_comm}
+use Rattle.std.proofs.Common.{◌≡◌, ℕ, zero, suc, ◌+◌, ◌<◌, ◌≤◌, ◌⊎◌, Bool, true, false, refl, sym, ap, ◌∙◌, subst, inl, inr, arith, add-zero, add-suc, add_comm}
 use Rattle.std.proofs.lemmas.Bool.{cases_Bool}
 use Rattle.fs_lists.proofs.Counts.{one_if}
 use Rattle.fs_convex.specs.Counts.{count_below}
@@ -79,3 +79,25 @@ change_between b a (suc k) e f =
       | inl g ↦ let rest = change_between b a k e g in (rest.0, rest.1, omega (arith, rest.2), rest.3, rest.4)
       | inr g ↦ (a + k, omega arith, omega arith, g, sym (ap b (add-suc a k)) ∙ f)
     ]
+
+-- all numbers below k pass, or one doesn't
+pub all_or_one_fails : (b : ℕ → Bool) (k : ℕ) → ((j : ℕ) → j < k → b j ≡ true) ⊎ ((l : ℕ) × (l < k) × (b l ≡ false))
+all_or_one_fails b zero = inl (λ j l. absurd (omega arith))
+all_or_one_fails b (suc k) =
+    elim (all_or_one_fails b k) [
+      | inr r ↦ inr (r.0, omega (arith, r.1), r.2)
+      | inl all ↦
+          elim (cases_Bool (b k)) [
+            | inl e ↦ inl (λ j l. elim (below_or_last j k l) [ inl m ↦ all j m | inr same ↦ ap b same ∙ e ])
+            | inr e ↦ inr (k, omega arith, e)
+          ]
+    ]
+  where
+    below_or_last : (j k : ℕ) → j < suc k → (j < k) ⊎ (j ≡ k)
+    below_or_last j k l = grind arith
+
+-- from a number back to an earlier one
+pub backwards : (P : ℕ → Type 0) (j m : ℕ) → ((i : ℕ) → j ≤ i → i < j + m → P (suc i) → P i) → P (j + m) → P j
+backwards P j zero step last = subst P (add-zero j) last
+backwards P j (suc m) step last =
+    backwards P j m (λ i l k. step i l (omega arith)) (step (j + m) (omega arith) (omega arith) (subst P (add-suc j m) last))

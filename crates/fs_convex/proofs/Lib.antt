@@ -2,3 +2,5 @@ pub mod Counts
 pub mod Rises
 pub mod Positions
 pub mod Winding
+pub mod Boundary
+pub mod Vertices

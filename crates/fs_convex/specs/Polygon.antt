@@ -1,7 +1,7 @@
 -- Convex polygons as endless boundaries: the sides and the vertices repeat after n.
 use Rattle.std.specs.Prelude.{◌≡◌, ℕ, zero, suc, ◌+◌, Bool}
 use Rattle.fs_ring.specs.Operations.{Operations}
-use Rattle.fs_ring.specs.Vector.{Vector, unit_vector, add_vector}
+use Rattle.fs_ring.specs.Vector.{Vector, unit_vector, add_vector, sub_vector, cross, dot}
 use Rattle.fs_convex.specs.Corners.{HasConvexCorners, rises}
 
 module _ {A : Type 0} (R : Operations A) where
@@ -22,3 +22,10 @@ module _ {A : Type 0} (R : Operations A) where
       pub sides : HasSides q s
       pub closed : q n ≡ q 0
       pub turning_number : rises R is_ahead (unit_vector R) s n ≡ 1
+
+  module _ (IsPositive : A → Type 0) where
+    -- the point p isn't on the side u from a to b: it is left of the side, or on its line, beyond its end or before its start
+    pub data IsOffSide (u a b p : Vector A) : Type 0 where
+      left_of_side : IsPositive (cross R u (sub_vector R p a)) → IsOffSide u a b p
+      beyond_end : cross R u (sub_vector R p a) ≡ R.zero → IsPositive (dot R u (sub_vector R p b)) → IsOffSide u a b p
+      before_start : cross R u (sub_vector R p a) ≡ R.zero → IsPositive (dot R u (sub_vector R a p)) → IsOffSide u a b p

@@ -1,0 +1,131 @@
+-- Where the vertices of a convex polygon are, seen from one of its sides. A library for crates to come.
+use Rattle.std.proofs.Common.{◌≡◌, ◌≢◌, ◌⊎◌, ℕ, zero, suc, ◌+◌, ◌-◌, ◌<◌, ◌≤◌, Bool, true, false, [], ◌∷◌, refl, sym, ap, ◌∙◌, subst, inl, inr, arith, add-zero, add-suc, zero-add}
+use Rattle.std.proofs.lemmas.Bool.{cases_Bool}
+use Rattle.fs_ring.specs.Operations.{Operations}
+use Rattle.fs_ring.specs.OrderedRing.{IsOrderedRing, IsNonNegative}
+use Rattle.fs_ring.specs.Vector.{Vector, zero_vector, neg_vector, sub_vector, cross, dot}
+use Rattle.fs_ring.specs.Direction.{IsAlong, InHalfPlane, at_start, inside}
+use Rattle.fs_ring.proofs.Signs as signs
+use Rattle.fs_ring.proofs.Directions as directions
+use Rattle.fs_ring.proofs.HalfPlanes as half_planes
+use Rattle.fs_ring.proofs.Turns as turns
+use Rattle.fs_ring.proofs.Solver.{expressions as E, numeral, ◌≐◌, ◌from◌}
+use Rattle.fs_ring.proofs.PlaneSolver.{plane_identity, plane_derived}
+use Rattle.fs_convex.specs.Corners.{DecidesHalfPlanes}
+use Rattle.fs_convex.specs.Polygon.{IsConvexPolygon, IsOffSide, left_of_side, beyond_end, before_start}
+use Rattle.fs_convex.proofs.Counts.{all_or_one_fails, backwards}
+use Rattle.fs_convex.proofs.Positions.{From, cross_to_same, dot_to_same, never_right, all_parallel, stays_parallel, further_along}
+use Rattle.fs_convex.proofs.Rises as corner
+use Rattle.fs_convex.proofs.Winding as winding
+use Rattle.fs_convex.proofs.Boundary as boundary
+
+module _ {A : Type 0} {R : Operations A} {IsPositive : A → Type 0} (L : IsOrderedRing R IsPositive) where
+  abbrev HalfPlane : Vector A → Vector A → Type 0
+  HalfPlane w v = InHalfPlane R IsPositive w v
+
+  abbrev Along : Vector A → Vector A → Type 0
+  Along a b = IsAlong R IsPositive a b
+
+  -- what is parallel to the first ray of its half plane is along it
+  pub along_of_half_plane : {u x : Vector A} → HalfPlane u x → cross R u x ≡ R.zero → Along u x
+  along_of_half_plane (at_start h) e = h
+  along_of_half_plane (inside p) e = absurd (signs.positive-ne-zero L p e)
+
+  -- what is parallel to u and turns into the direction of u has that direction
+  pub along_of_parallel : {u x y : Vector A} → cross R u x ≡ R.zero → HalfPlane x y → Along u y → Along u x
+  along_of_parallel e (at_start h) k = directions.along_trans L k (directions.along_comm L h)
+  along_of_parallel {u} {x} e (inside p) k =
+      absurd (signs.positive-ne-zero L (directions.along_cross_right L x (directions.along_comm L k) p) (directions.parallel_comm L u x e))
+
+  -- from a to b where b is left of the line, as from b to a seen from the other side
+  turned : (u a b : Vector A) → cross R (neg_vector R u) (sub_vector R a b) ≡ cross R u (sub_vector R b a)
+  turned u a b = plane_identity L.ring [] (u ∷ a ∷ b ∷ []) (λ u a b. cross E (neg_vector E u) (sub_vector E a b) ≐ cross E u (sub_vector E b a)) refl
+
+  parallel_of_neg : (u x : Vector A) → cross R (neg_vector R u) x ≡ R.zero → cross R u x ≡ R.zero
+  parallel_of_neg u x e = plane_derived L.ring [] (u ∷ x ∷ []) (λ u x. cross E u x ≐ numeral 0 from (E.neg (numeral 1), cross E (neg_vector E u) x ≐ numeral 0) ∷ []) refl (e, tt)
+
+  parallel_back : (u a b : Vector A) → cross R u (sub_vector R a b) ≡ R.zero → cross R u (sub_vector R b a) ≡ R.zero
+  parallel_back u a b e = plane_derived L.ring [] (u ∷ a ∷ b ∷ []) (λ u a b. cross E u (sub_vector E b a) ≐ numeral 0 from (E.neg (numeral 1), cross E u (sub_vector E a b) ≐ numeral 0) ∷ []) refl (e, tt)
+
+  not_both_ways : (u a b : Vector A) → IsPositive (dot R u (sub_vector R a b)) → IsPositive (dot R u (sub_vector R b a)) → ⊥
+  not_both_ways u a b p r =
+      signs.not_both_signs L p (directions.positive_by_plane L [] (u ∷ a ∷ b ∷ []) (λ u a b. E.neg (dot E u (sub_vector E a b)) ≐ dot E u (sub_vector E b a)) refl r)
+
+  -- vertex k is left of side 0, or the sides before it are along side 0, or those after it are
+  pub data FromSide (n : ℕ) (s q : ℕ → Vector A) (k : ℕ) : Type 0 where
+    to_left : IsPositive (cross R (s 0) (sub_vector R (q k) (q 0))) → FromSide n s q k
+    sides_before : ((j : ℕ) → j < k → Along (s 0) (s j)) → FromSide n s q k
+    sides_after : ((j : ℕ) → k ≤ j → j < n → Along (s 0) (s j)) → FromSide n s q k
+
+  module _ {is_ahead : Vector A → Vector A → Bool} (test : DecidesHalfPlanes R IsPositive is_ahead) where
+    abbrev Polygon : ℕ → (ℕ → Vector A) → (ℕ → Vector A) → Type 0
+    Polygon n s q = IsConvexPolygon R IsPositive is_ahead n s q
+
+    module _ {n : ℕ} {s q : ℕ → Vector A} (p : Polygon n s q) where
+      abbrev u : Vector A
+      u = s 0
+
+      u-ne-zero : u ≢ zero_vector R
+      u-ne-zero = winding.side-ne-zero L test p.convex 0
+
+      u_along : Along u u
+      u_along = directions.along_self L u u-ne-zero
+
+      last_along : (k : ℕ) → k ≤ n → Along u (s (k + (n - k)))
+      last_along k l = subst (Along u) (sym (ap s (let z : k + (n - k) ≡ n = omega arith in z) ∙ boundary.sides_return L test p)) u_along
+
+      -- after a side that isn't in the half plane of side 0, one that is is along side 0
+      along_after : (l j : ℕ) → l < j → j < n → is_ahead u (s l) ≡ false → is_ahead u (s j) ≡ true → Along u (s j)
+      along_after l j m k e f =
+          backwards (λ i. Along u (s i)) j (n - j)
+          (λ i a b h. turns.along_before_turn L h (p.convex i) (later i a (omega arith)))
+          (last_along j (omega arith))
+        where
+          to_j : l + (j - l) ≡ j
+          to_j = omega arith
+
+          rise : (r : ℕ) × (l ≤ r) × (r < l + (j - l)) × winding.IsRiseAt L test u s r
+          rise = winding.rise_between L test p.convex u-ne-zero l (j - l) e (ap (λ (i : ℕ). is_ahead u (s i)) to_j ∙ f)
+
+          later : (i : ℕ) → j ≤ i → i < n → HalfPlane u (s i)
+          later i a b = elim (cases_Bool (is_ahead u (s i))) [
+            | inl g ↦ test.sound u (s i) g
+            | inr g ↦
+                let to_n : i + (n - i) ≡ n = omega arith in
+                let again = winding.rise_between L test p.convex u-ne-zero i (n - i) g
+                (ap (λ (i : ℕ). is_ahead u (s i)) to_n ∙ ap (is_ahead u) (boundary.sides_return L test p) ∙ test.complete u u (at_start u_along)) in
+                let same = boundary.one_rise L test p u-ne-zero rise.0 again.0 (omega (arith, rise.2)) (omega (arith, again.2)) rise.3 again.3 in
+                absurd (omega (arith, rise.2, again.1))
+          ]
+
+      pub vertex_from_side : (k : ℕ) → k ≤ n → FromSide n s q k
+      vertex_from_side k l = elim (all_or_one_fails (λ j. is_ahead u (s j)) k) [
+        | inl all ↦
+            let start : 0 + k ≡ k = zero-add k in
+            let ahead : From (λ j. IsNonNegative R IsPositive (cross R u (s j))) 0 k =
+            (λ j a b. half_planes.half_plane_non_negative L (test.sound u (s j) (all j (omega arith)))) in
+            elim (signs.non_negative_cases L _ (never_right L p.sides u 0 k ahead)) [
+              | inl r ↦ to_left (subst (λ (i : ℕ). IsPositive (cross R u (sub_vector R (q i) (q 0)))) start r)
+              | inr e ↦ sides_before (λ j m. along_of_half_plane (test.sound u (s j) (all j m)) (all_parallel L p.sides u 0 k ahead e j (omega arith) (omega arith)))
+            ]
+        | inr some ↦
+            let to_n : k + (n - k) ≡ n = omega arith in
+            let end : q (k + (n - k)) ≡ q 0 = ap q to_n ∙ p.closed in
+            let ahead : From (λ j. IsNonNegative R IsPositive (cross R (neg_vector R u) (s j))) k (n - k) =
+            (λ j a b. elim (cases_Bool (is_ahead u (s j))) [
+              | inl f ↦ signs.non_negative_of_zero L (opposite_parallel (s j) (along_after some.0 j (omega (arith, some.1)) (omega arith) some.2 f))
+              | inr f ↦ half_planes.half_plane_non_negative L (corner.half_plane_of_not_ahead L test u-ne-zero (winding.side-ne-zero L test p.convex j) f)
+            ]) in
+            elim (signs.non_negative_cases L _ (never_right L p.sides (neg_vector R u) k (n - k) ahead)) [
+              | inl r ↦ to_left (signs.positive_of_eq L (sym (turned u (q 0) (q k))) (subst (λ w. IsPositive (cross R (neg_vector R u) (sub_vector R w (q k)))) end r))
+              | inr e ↦
+                  let parallel = all_parallel L p.sides (neg_vector R u) k (n - k) ahead e in
+                  sides_after (λ j a b.
+                  backwards (λ i. Along u (s i)) j (n - j)
+                  (λ i c d h. along_of_parallel (parallel_of_neg u (s i) (parallel i (omega arith) (omega arith))) (p.convex i) h)
+                  (last_along j (omega arith)))
+            ]
+      ]
+        where
+          opposite_parallel : (x : Vector A) → Along u x → cross R (neg_vector R u) x ≡ R.zero
+          opposite_parallel x h = plane_derived L.ring [] (u ∷ x ∷ []) (λ u x. cross E (neg_vector E u) x ≐ numeral 0 from (E.neg (numeral 1), cross E u x ≐ numeral 0) ∷ []) refl (h.parallel, tt)
