@@ -129,3 +129,111 @@ module _ {A : Type 0} {R : Operations A} {IsPositive : A → Type 0} (L : IsOrde
         where
           opposite_parallel : (x : Vector A) → Along u x → cross R (neg_vector R u) x ≡ R.zero
           opposite_parallel x h = plane_derived L.ring [] (u ∷ x ∷ []) (λ u x. cross E (neg_vector E u) x ≐ numeral 0 from (E.neg (numeral 1), cross E u x ≐ numeral 0) ∷ []) refl (h.parallel, tt)
+
+      -- ---- a vertex against side 0
+
+      -- a vertex other than the side's two ends is off the side
+      pub vertex_off_side : (k : ℕ) → 2 ≤ k → k < n → IsOffSide R IsPositive u (q 0) (q 1) (q k)
+      vertex_off_side k l m = elim (vertex_from_side k (omega arith)) [
+        | to_left r ↦ left_of_side r
+        | sides_before h ↦
+            let from_first : 1 + (k - 1) ≡ k = omega arith in
+            beyond_end
+            (subst (λ (i : ℕ). cross R u (sub_vector R (q i) (q 0)) ≡ R.zero) (zero-add k) (stays_parallel L p.sides u 0 k (λ j a b. (h j (omega (arith, zero-add k))).parallel)))
+            (subst (λ (i : ℕ). IsPositive (dot R u (sub_vector R (q i) (q 1)))) from_first (further_along L p.sides u 1 (k - 1) (λ j a b. (h j (omega arith)).same_way) (omega arith)))
+        | sides_after h ↦
+            let to_n : k + (n - k) ≡ n = omega arith in
+            let end : q (k + (n - k)) ≡ q 0 = ap q to_n ∙ p.closed in
+            before_start
+            (parallel_back u (q 0) (q k) (subst (λ w. cross R u (sub_vector R w (q k)) ≡ R.zero) end (stays_parallel L p.sides u k (n - k) (λ j a b. (h j a (omega arith)).parallel))))
+            (subst (λ w. IsPositive (dot R u (sub_vector R w (q k)))) end (further_along L p.sides u k (n - k) (λ j a b. (h j a (omega arith)).same_way) (omega arith)))
+      ]
+
+      -- where it is on the side's line, the sides on one way to it are along the side
+      pub sides_to_vertex_on_line : (k : ℕ) → k ≤ n → cross R u (sub_vector R (q k) (q 0)) ≡ R.zero
+          → ((j : ℕ) → j < k → Along u (s j)) ⊎ ((j : ℕ) → k ≤ j → j < n → Along u (s j))
+      sides_to_vertex_on_line k l e =
+          elim (vertex_from_side k l) [ to_left r ↦ absurd (signs.positive-ne-zero L r e) | sides_before h ↦ inl h | sides_after h ↦ inr h ]
+
+      -- where all corners are strictly convex, it is left of the side
+      pub vertex_left_of_side : ((j : ℕ) → IsPositive (cross R (s j) (s (suc j)))) → (k : ℕ) → 2 ≤ k → k < n → IsPositive (cross R u (sub_vector R (q k) (q 0)))
+      vertex_left_of_side strict k l m = elim (vertex_from_side k (omega arith)) [
+        | to_left r ↦ r
+        | sides_before h ↦ absurd (turns.along_not_left L (h 1 (omega arith)) (strict 0))
+        | sides_after h ↦
+            let last : suc (n - 1) ≡ n = omega arith in
+            absurd (turns.along_not_right L (h (n - 1) (omega arith) (omega arith))
+            (subst (λ w. IsPositive (cross R (s (n - 1)) w)) (ap s last ∙ boundary.sides_return L test p) (strict (n - 1))))
+      ]
+
+      vertex_not_right_of_first : (k : ℕ) → k ≤ n → IsNonNegative R IsPositive (cross R u (sub_vector R (q k) (q 0)))
+      vertex_not_right_of_first k l = elim (vertex_from_side k l) [
+        | to_left r ↦ signs.non_negative_of_positive L r
+        | sides_before h ↦
+            signs.non_negative_of_zero L
+            (subst (λ (i : ℕ). cross R u (sub_vector R (q i) (q 0)) ≡ R.zero) (zero-add k) (stays_parallel L p.sides u 0 k (λ j a b. (h j (omega (arith, zero-add k))).parallel)))
+        | sides_after h ↦
+            let to_n : k + (n - k) ≡ n = omega arith in
+            let end : q (k + (n - k)) ≡ q 0 = ap q to_n ∙ p.closed in
+            signs.non_negative_of_zero L
+            (parallel_back u (q 0) (q k) (subst (λ w. cross R u (sub_vector R w (q k)) ≡ R.zero) end (stays_parallel L p.sides u k (n - k) (λ j a b. (h j a (omega arith)).parallel))))
+      ]
+
+      vertex_not_first : (k : ℕ) → 0 < k → k < n → q k ≢ q 0
+      vertex_not_first k l m e = elim (vertex_from_side k (omega arith)) [
+        | to_left r ↦ signs.positive-ne-zero L r (cross_to_same L u e)
+        | sides_before h ↦
+            signs.positive-ne-zero L (further_along L p.sides u 0 k (λ j a b. (h j (omega (arith, zero-add k))).same_way) l) (dot_to_same L u (ap q (zero-add k) ∙ e))
+        | sides_after h ↦
+            let to_n : k + (n - k) ≡ n = omega arith in
+            signs.positive-ne-zero L (further_along L p.sides u k (n - k) (λ j a b. (h j a (omega arith)).same_way) (omega arith)) (dot_to_same L u (ap q to_n ∙ p.closed ∙ sym e))
+      ]
+
+      none_inside_first : (k : ℕ) → k < n → cross R u (sub_vector R (q k) (q 0)) ≡ R.zero → IsPositive (dot R u (sub_vector R (q k) (q 0)))
+          → IsPositive (dot R u (sub_vector R (q 1) (q k))) → ⊥
+      none_inside_first k l e after before = go (three k)
+        where
+          three : (k : ℕ) → (k ≡ 0) ⊎ ((k ≡ 1) ⊎ (2 ≤ k))
+          three k = grind arith
+
+          go : (k ≡ 0) ⊎ ((k ≡ 1) ⊎ (2 ≤ k)) → ⊥
+          go (inl z) = signs.positive-ne-zero L after (dot_to_same L u (ap q z))
+          go (inr (inl z)) = signs.positive-ne-zero L before (dot_to_same L u (sym (ap q z)))
+          go (inr (inr m)) = elim (vertex_off_side k m l) [
+            | left_of_side r ↦ signs.positive-ne-zero L r e
+            | beyond_end z r ↦ not_both_ways u (q k) (q 1) r before
+            | before_start z r ↦ not_both_ways u (q k) (q 0) after r
+          ]
+
+    -- ---- a vertex against any side
+
+    module _ {n : ℕ} {s q : ℕ → Vector A} (p : Polygon n s q) where
+      -- no vertex is right of a side
+      pub vertex_not_right : (j k : ℕ) → IsNonNegative R IsPositive (cross R (s j) (sub_vector R (q k) (q j)))
+      vertex_not_right j k =
+          let there = boundary.vertex_after L test p j k in
+          let from_j = boundary.polygon_from L test j p in
+          let small = boundary.vertex_below L test from_j there.0 in
+          subst (IsNonNegative R IsPositive)
+          (λ i. cross R (s (add-zero j i)) (sub_vector R ((sym small.2 ∙ there.1) i) (q (add-zero j i))))
+          (vertex_not_right_of_first from_j small.0 (omega (arith, small.1)))
+
+      -- the vertices differ
+      pub vertices_differ : (j k : ℕ) → j < k → k < n → q j ≢ q k
+      vertices_differ j k l m e =
+          let there : j + (k - j) ≡ k = omega arith in
+          vertex_not_first (boundary.polygon_from L test j p) (k - j) (omega arith) (omega arith) (ap q there ∙ sym e ∙ ap q (sym (add-zero j)))
+
+      -- no vertex is strictly between the ends of a side
+      pub no_vertex_inside_side : (j k : ℕ) → cross R (s j) (sub_vector R (q k) (q j)) ≡ R.zero → IsPositive (dot R (s j) (sub_vector R (q k) (q j)))
+          → IsPositive (dot R (s j) (sub_vector R (q (suc j)) (q k))) → ⊥
+      no_vertex_inside_side j k e after before =
+          let there = boundary.vertex_after L test p j k in
+          let from_j = boundary.polygon_from L test j p in
+          let small = boundary.vertex_below L test from_j there.0 in
+          let same : q (j + small.0) ≡ q k = sym small.2 ∙ there.1 in
+          let next : q (j + 1) ≡ q (suc j) = ap q (let z : j + 1 ≡ suc j = omega arith in z) in
+          none_inside_first from_j small.0 small.1
+          (subst (λ x. x ≡ R.zero) (sym (λ i. cross R (s (add-zero j i)) (sub_vector R (same i) (q (add-zero j i))))) e)
+          (signs.positive_of_eq L (λ i. dot R (s (add-zero j i)) (sub_vector R (same i) (q (add-zero j i)))) after)
+          (signs.positive_of_eq L (λ i. dot R (s (add-zero j i)) (sub_vector R (next i) (same i))) before)
