@@ -101,3 +101,20 @@ pub backwards : (P : ℕ → Type 0) (j m : ℕ) → ((i : ℕ) → j ≤ i → 
 backwards P j zero step last = subst P (add-zero j) last
 backwards P j (suc m) step last =
     backwards P j m (λ i l k. step i l (omega arith)) (step (j + m) (omega arith) (omega arith) (subst P (add-suc j m) last))
+
+-- where the number a has P, all of the next k have it, or there is a last one before the first that hasn't
+pub last_before_failure : (P : ℕ → Type 0) → ((j : ℕ) → P j ⊎ ¬ P j) → (a k : ℕ) → P a
+    → ((j : ℕ) → a ≤ j → j ≤ a + k → P j) ⊎ ((i : ℕ) × (a ≤ i) × (i < a + k) × ((j : ℕ) → a ≤ j → j ≤ i → P j) × ¬ P (suc i))
+last_before_failure P decide a zero h = inl (λ j l m. subst P (let e = add-zero a in let z : a ≡ j = omega arith in z) h)
+last_before_failure P decide a (suc k) h =
+    elim (last_before_failure P decide a k h) [
+      | inr r ↦ inr (r.0, r.1, omega (arith, r.2), r.3, r.4)
+      | inl all ↦
+          elim (decide (suc (a + k))) [
+            | inl here ↦ inl (λ j l m. elim (up_to_or_last j (a + k) (omega arith)) [ inl n ↦ all j l n | inr e ↦ subst P (sym e) here ])
+            | inr not_here ↦ inr (a + k, omega arith, omega arith, all, not_here)
+          ]
+    ]
+  where
+    up_to_or_last : (j b : ℕ) → j ≤ suc b → (j ≤ b) ⊎ (j ≡ suc b)
+    up_to_or_last j b l = grind arith

@@ -4,3 +4,4 @@ pub mod Positions
 pub mod Winding
 pub mod Boundary
 pub mod Vertices
+pub mod Exits

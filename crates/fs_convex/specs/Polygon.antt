@@ -1,5 +1,5 @@
 -- Convex polygons as endless boundaries: the sides and the vertices repeat after n.
-use Rattle.std.specs.Prelude.{◌≡◌, ℕ, zero, suc, ◌+◌, Bool}
+use Rattle.std.specs.Prelude.{◌≡◌, ℕ, zero, suc, ◌+◌, ◌<◌, ◌≤◌, Bool}
 use Rattle.fs_ring.specs.Operations.{Operations}
 use Rattle.fs_ring.specs.Vector.{Vector, unit_vector, add_vector, sub_vector, cross, dot}
 use Rattle.fs_convex.specs.Corners.{HasConvexCorners, rises}
@@ -29,3 +29,12 @@ module _ {A : Type 0} (R : Operations A) where
       left_of_side : IsPositive (cross R u (sub_vector R p a)) → IsOffSide u a b p
       beyond_end : cross R u (sub_vector R p a) ≡ R.zero → IsPositive (dot R u (sub_vector R p b)) → IsOffSide u a b p
       before_start : cross R u (sub_vector R p a) ≡ R.zero → IsPositive (dot R u (sub_vector R a p)) → IsOffSide u a b p
+
+    -- the path q from vertex 1 to vertex m leaves the side right of the line through (0, 0) along v by the side i:
+    -- the vertices up to i are right of the line, the next one isn't, and those after it are left
+    pub record LeavesRight (v : Vector A) (q : ℕ → Vector A) (i m : ℕ) : Type 0 where
+      pub not_first : 1 ≤ i
+      pub before_last : i < m
+      pub right_before : (j : ℕ) → 1 ≤ j → j ≤ i → IsPositive (cross R (q j) v)
+      pub not_right : ¬ IsPositive (cross R (q (suc i)) v)
+      pub left_after : (j : ℕ) → suc (suc i) ≤ j → j ≤ m → IsPositive (cross R v (q j))
