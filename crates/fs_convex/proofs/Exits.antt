@@ -12,7 +12,7 @@ use Rattle.fs_ring.proofs.Turns as turns
 use Rattle.fs_ring.proofs.Solver.{expressions as E, numeral, ◌⊕◌, ◌⊗◌, ◌≐◌, ◌from◌}
 use Rattle.fs_ring.proofs.PlaneSolver.{plane_derived}
 use Rattle.fs_convex.specs.Corners.{DecidesHalfPlanes}
-use Rattle.fs_convex.specs.Polygon.{IsConvexPolygon, left_of_side, beyond_end, before_start, LeavesRight}
+use Rattle.fs_convex.specs.Polygon.{IsConvexPolygon, IsOffSide, left_of_side, beyond_end, before_start, LeavesRight}
 use Rattle.fs_convex.proofs.Counts.{all_or_one_fails, last_before_failure}
 use Rattle.fs_convex.proofs.Positions.{From, never_right, further_left}
 use Rattle.fs_convex.proofs.Rises as corner
@@ -54,6 +54,53 @@ module _ {A : Type 0} {R : Operations A} {IsPositive : A → Type 0} (L : IsOrde
   side_left {v} {x} {s} {y} e h k =
       directions.positive_by_plane L [] (v ∷ x ∷ s ∷ []) (λ v x s. cross E v s ≐ cross E v (add_vector E x s) ⊕ cross E x v) refl
       (signs.add_non_negative_positive L (subst (λ w. IsNonNegative R IsPositive (cross R v w)) e (not_right_cross v y k)) h)
+
+  -- (0, 0) is off the side s from x to y, x is right of v and y isn't, and y isn't (0, 0): then the line along v crosses the side ahead
+  ahead_of_zero : {v x y s : Vector A} → y ≡ add_vector R x s → y ≢ zero_vector R → IsOffSide R IsPositive s x y (zero_vector R)
+      → IsPositive (cross R x v) → ¬ IsPositive (cross R y v) → IsPositive (cross R x y)
+  ahead_of_zero {v} {x} {y} {s} e n off h k = go off
+    where
+      flat : cross R s (sub_vector R (zero_vector R) x) ≡ R.zero → cross R x y ≡ R.zero
+      flat z = ap (cross R x) e ∙ plane_derived L.ring [] (x ∷ s ∷ []) (λ x s. cross E x (add_vector E x s) ≐ numeral 0 from (numeral 1, cross E s (sub_vector E (zero_vector E) x) ≐ numeral 0) ∷ []) refl (z, tt)
+
+      -- where x, y and (0, 0) are on a line, v crosses it between x and y
+      balanced : cross R x y ≡ R.zero → R.add (R.mul (cross R v y) (dot R s x)) (R.mul (cross R x v) (dot R s y)) ≡ R.zero
+      balanced z = plane_derived L.ring [] (v ∷ x ∷ y ∷ s ∷ []) (λ v x y s. cross E v y ⊗ dot E s x ⊕ cross E x v ⊗ dot E s y ≐ numeral 0 from (dot E s v, cross E x y ≐ numeral 0) ∷ []) refl (z, tt)
+
+      parallel_on_line : cross R x y ≡ R.zero → cross R v y ≡ R.zero → ⊥
+      parallel_on_line z f =
+          elim (directions.zero_of_cross_dot-zero L v y f
+          (signs.zero_of_mul_left L (signs.positive-ne-zero L h)
+          (plane_derived L.ring [] (v ∷ x ∷ y ∷ []) (λ v x y. cross E x v ⊗ dot E v y ≐ numeral 0 from (norm E v, cross E x y ≐ numeral 0) ∷ (E.neg (dot E v x), cross E v y ≐ numeral 0) ∷ []) refl (z, (f, tt)))))
+          [ inl o ↦ directions.cross_positive-ne-zero_right L h o | inr o ↦ n o ]
+
+      beyond : cross R x y ≡ R.zero → IsPositive (cross R v y) → IsPositive (dot R s (sub_vector R (zero_vector R) y)) → ⊥
+      beyond z l r =
+          let y_back : IsPositive (R.neg (dot R s y)) = directions.positive_by_plane L [] (s ∷ y ∷ []) (λ s y. E.neg (dot E s y) ≐ dot E s (sub_vector E (zero_vector E) y)) refl r in
+          let x_back : IsPositive (R.neg (dot R s x)) =
+          directions.positive_by_plane L [] (x ∷ s ∷ []) (λ x s. E.neg (dot E s x) ≐ E.neg (dot E s (add_vector E x s)) ⊕ norm E s) refl
+          (signs.add_positive_non_negative L (subst (λ w. IsPositive (R.neg (dot R s w))) e y_back) (directions.norm_non_negative L s)) in
+          signs.negative-ne-zero L
+          (directions.positive_by_plane L [] (v ∷ x ∷ y ∷ s ∷ []) (λ v x y s. E.neg (cross E v y ⊗ dot E s x ⊕ cross E x v ⊗ dot E s y) ≐ cross E v y ⊗ E.neg (dot E s x) ⊕ cross E x v ⊗ E.neg (dot E s y)) refl
+          (L.add_positive (L.mul_positive l x_back) (L.mul_positive h y_back))) (balanced z)
+
+      before : cross R x y ≡ R.zero → IsPositive (cross R v y) → IsPositive (dot R s (sub_vector R x (zero_vector R))) → ⊥
+      before z l r =
+          let x_on : IsPositive (dot R s x) = directions.positive_by_plane L [] (s ∷ x ∷ []) (λ s x. dot E s x ≐ dot E s (sub_vector E x (zero_vector E))) refl r in
+          let y_on : IsPositive (dot R s y) =
+          subst (λ w. IsPositive (dot R s w)) (sym e)
+          (directions.positive_by_plane L [] (x ∷ s ∷ []) (λ x s. dot E s (add_vector E x s) ≐ dot E s x ⊕ norm E s) refl
+          (signs.add_positive_non_negative L x_on (directions.norm_non_negative L s))) in
+          signs.positive-ne-zero L (L.add_positive (L.mul_positive l x_on) (L.mul_positive h y_on)) (balanced z)
+
+      go : IsOffSide R IsPositive s x y (zero_vector R) → IsPositive (cross R x y)
+      go (left_of_side r) =
+          subst (λ w. IsPositive (cross R x w)) (sym e)
+          (directions.positive_by_plane L [] (x ∷ s ∷ []) (λ x s. cross E x (add_vector E x s) ≐ cross E s (sub_vector E (zero_vector E) x)) refl r)
+      go (beyond_end z r) =
+          absurd (elim (signs.non_negative_cases L _ (not_right_cross v y k)) [ inl l ↦ beyond (flat z) l r | inr f ↦ parallel_on_line (flat z) f ])
+      go (before_start z r) =
+          absurd (elim (signs.non_negative_cases L _ (not_right_cross v y k)) [ inl l ↦ before (flat z) l r | inr f ↦ parallel_on_line (flat z) f ])
 
   module _ {is_ahead : Vector A → Vector A → Bool} (test : DecidesHalfPlanes R IsPositive is_ahead) where
     abbrev Polygon : ℕ → (ℕ → Vector A) → (ℕ → Vector A) → Type 0
@@ -146,3 +193,52 @@ module _ {A : Type 0} {R : Operations A} {IsPositive : A → Type 0} (L : IsOrde
         -- a side from right to left is crossed ahead
         pub side_ahead_of_entry : (j k : ℕ) → IsPositive (cross R (q j) v) → IsPositive (cross R v (q k)) → IsPositive (cross R (q j) (q k))
         side_ahead_of_entry j k h l = ahead_across entry_turn (inner j) (inner k) h l
+
+      -- ---- the line leaves ahead, where it begins at vertex 0
+
+      module _ {v : Vector A} (start : q 0 ≡ zero_vector R) {i m : ℕ} (e : LeavesRight R IsPositive v q i m) (most : m < n) where
+        -- the side by which the boundary leaves the right side is crossed ahead
+        pub side_ahead_of_start : IsPositive (cross R (q i) (q (suc i)))
+        side_ahead_of_start =
+            ahead_of_zero (p.sides i) not_start
+            (subst (λ w. IsOffSide R IsPositive (s i) (q i) (q (suc i)) w) (ap q to_n ∙ p.closed ∙ start)
+            (subst (λ w. IsOffSide R IsPositive (s i) (q i) w (q (i + (n - i)))) (ap q (let z : i + 1 ≡ suc i = omega arith in z))
+            (subst (λ (j : ℕ). IsOffSide R IsPositive (s j) (q j) (q (i + 1)) (q (i + (n - i)))) (add-zero i)
+            (vertices.vertex_off_side L test (boundary.polygon_from L test i p) (n - i) (omega (arith, e.before_last)) (omega (arith, e.before_last, e.not_first))))))
+            (e.right_before i e.not_first (omega arith)) e.not_right
+          where
+            to_n : i + (n - i) ≡ n
+            to_n = omega (arith, e.before_last)
+
+            not_start : q (suc i) ≢ zero_vector R
+            not_start z = vertices.vertices_differ L test p 0 (suc i) (omega arith) (omega (arith, e.before_last)) (start ∙ sym z)
+
+        -- a vertex at which it leaves is ahead
+        pub vertex_ahead_of_start : cross R v (q (suc i)) ≡ R.zero → IsPositive (dot R v (q (suc i)))
+        vertex_ahead_of_start z = ahead_on_line (e.right_before i e.not_first (omega arith)) side_ahead_of_start z
+
+      -- ---- the line runs along side 0
+
+      -- a vertex ahead on the line of side 0 is the side's end, or beyond it
+      pub vertex_ahead_on_side : {v : Vector A} → q 0 ≡ zero_vector R → IsAlong R IsPositive (s 0) v → (k : ℕ) → k < n → cross R v (q k) ≡ R.zero
+          → IsPositive (dot R v (q k)) → (k ≡ 1) ⊎ IsPositive (dot R (s 0) (sub_vector R (q k) (q 1)))
+      vertex_ahead_on_side {v} start h k l e ahead = go (three k)
+        where
+          three : (k : ℕ) → (k ≡ 0) ⊎ ((k ≡ 1) ⊎ (2 ≤ k))
+          three k = grind arith
+
+          go : (k ≡ 0) ⊎ ((k ≡ 1) ⊎ (2 ≤ k)) → (k ≡ 1) ⊎ IsPositive (dot R (s 0) (sub_vector R (q k) (q 1)))
+          go (inl z) = absurd (directions.dot_positive-ne-zero_right L ahead (ap q z ∙ start))
+          go (inr (inl z)) = inl z
+          go (inr (inr m)) = elim (vertices.vertex_off_side L test p k m l) [
+            | left_of_side r ↦
+                absurd (signs.positive-ne-zero L
+                (directions.along_cross L (q k) h
+                (directions.positive_by_plane L [] (s 0 ∷ q k ∷ []) (λ s x. cross E s x ≐ cross E s (sub_vector E x (zero_vector E))) refl
+                (subst (λ w. IsPositive (cross R (s 0) (sub_vector R (q k) w))) start r))) e)
+            | beyond_end z r ↦ inr r
+            | before_start z r ↦
+                absurd (signs.not_both_signs L (directions.along_dot L (q k) (directions.along_comm L h) ahead)
+                (directions.positive_by_plane L [] (s 0 ∷ q k ∷ []) (λ s x. E.neg (dot E s x) ≐ dot E s (sub_vector E (zero_vector E) x)) refl
+                (subst (λ w. IsPositive (dot R (s 0) (sub_vector R w (q k)))) start r)))
+          ]
