@@ -5,3 +5,4 @@ pub mod Winding
 pub mod Boundary
 pub mod Vertices
 pub mod Exits
+pub mod Chains

@@ -1,5 +1,5 @@
 -- Corners between a side and the next one, seen from a direction.
-use Rattle.std.specs.Prelude.{◌≡◌, ℕ, suc, Bool, true, ◌&&◌}
+use Rattle.std.specs.Prelude.{◌≡◌, ℕ, suc, ◌+◌, ◌<◌, ◌≤◌, Bool, true, ◌&&◌}
 use Rattle.fs_ring.specs.Operations.{Operations}
 use Rattle.fs_ring.specs.Vector.{Vector, neg_vector}
 use Rattle.fs_ring.specs.Direction.{InHalfPlane}
@@ -23,3 +23,21 @@ module _ {A : Type 0} (R : Operations A) (is_ahead : Vector A → Vector A → B
   -- how many of the first k corners pass v
   abbrev pub rises : Vector A → (ℕ → Vector A) → ℕ → ℕ
   rises v s k = count_below (λ j. is_rise v (s j) (s (suc j))) k
+
+module _ {A : Type 0} (R : Operations A) where
+  -- the boundary s of k + m sides is cut in two: a has its first k sides and then the cut, b has the other m and then the opposite of the cut
+  pub record IsCutInTwo (s a b : ℕ → Vector A) (k m : ℕ) : Type 0 where
+    pub closed : s (k + m) ≡ s 0
+    pub first : (j : ℕ) → j < k → a j ≡ s j
+    pub first_closed : a (suc k) ≡ s 0
+    pub second : (j : ℕ) → j < m → b j ≡ s (k + j)
+    pub second_closed : b (suc m) ≡ s k
+    pub opposite_cuts : b m ≡ neg_vector R (a k)
+
+module _ {A : Type 0} (R : Operations A) (IsPositive : A → Type 0) where
+  -- of the n sides from side r on, the first h are in the half plane of v, and the others in that of -v
+  pub record IsTwoChains (v : Vector A) (s : ℕ → Vector A) (n r h : ℕ) : Type 0 where
+    pub some_ahead : 0 < h
+    pub some_back : h < n
+    pub ahead : (j : ℕ) → j < h → InHalfPlane R IsPositive v (s (r + j))
+    pub back : (j : ℕ) → h ≤ j → j < n → InHalfPlane R IsPositive (neg_vector R v) (s (r + j))
