@@ -9,5 +9,6 @@ pub mod Plane
 pub mod Directions
 pub mod HalfPlanes
 pub mod Turns
+pub mod Chords
 pub mod Hinges
 pub mod Integers
