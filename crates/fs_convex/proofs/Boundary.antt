@@ -6,13 +6,13 @@ use Rattle.fs_ring.specs.Vector.{Vector, zero_vector, unit_vector, add_vector}
 use Rattle.fs_ring.specs.Direction.{InHalfPlane}
 use Rattle.fs_ring.proofs.Signs as signs
 use Rattle.fs_convex.specs.Counts.{count_below}
-use Rattle.fs_convex.specs.Corners.{DecidesHalfPlanes, is_rise, rises}
+use Rattle.fs_convex.specs.Turning.{DecidesHalfPlanes, is_rise, rises, IsRiseAt}
 use Rattle.fs_convex.specs.Polygon.{position, HasSides, IsConvexPolygon}
 use Rattle.fs_convex.proofs.Counts.{count_below-agree, count_below-shift}
 use Rattle.fs_convex.proofs.Winding as winding
 
 module _ {A : Type 0} (R : Operations A) where
-  -- the vertices that are computed from the sides are between them
+  -- the positions that are computed from the sides have them between them
   pub position_sides : (p : Vector A) (s : ℕ → Vector A) → HasSides R (position R p s) s
   position_sides p s j = refl
 
@@ -33,7 +33,7 @@ module _ {A : Type 0} {R : Operations A} {IsPositive : A → Type 0} (L : IsOrde
   unit-ne-zero e = signs.positive-ne-zero L L.one_positive (ap (λ v. v.x) e)
 
   module _ {n : ℕ} {s q : ℕ → Vector A} (p : Polygon n s q) where
-    -- it has sides
+    -- a polygon has sides
     pub some_side : 0 < n
     some_side = go n p.turning_number
       where
@@ -41,40 +41,43 @@ module _ {A : Type 0} {R : Operations A} {IsPositive : A → Type 0} (L : IsOrde
         go zero e = absurd (omega arith)
         go (suc n) e = omega arith
 
+    -- after its last side the first one comes again
     pub sides_return : s n ≡ s 0
     sides_return = ap s (sym (add-zero n)) ∙ p.repeats 0
 
-    -- the vertices repeat too
-    pub vertices_repeat : (j : ℕ) → q (n + j) ≡ q j
-    vertices_repeat zero = ap q (add-zero n) ∙ p.closed
-    vertices_repeat (suc j) =
-        ap q (add-suc n j) ∙ p.sides (n + j) ∙ (λ i. add_vector R (vertices_repeat j i) (p.repeats j i)) ∙ sym (p.sides j)
+    -- the positions repeat too
+    pub positions_repeat : (j : ℕ) → q (n + j) ≡ q j
+    positions_repeat zero = ap q (add-zero n) ∙ p.closed
+    positions_repeat (suc j) =
+        ap q (add-suc n j) ∙ p.sides (n + j) ∙ (λ i. add_vector R (positions_repeat j i) (p.repeats j i)) ∙ sym (p.sides j)
 
-    pub vertices_repeat_often : (t j : ℕ) → q (t * n + j) ≡ q j
-    vertices_repeat_often zero j = ap q (let e = zero-mul n in let z : 0 * n + j ≡ j = omega (arith, zero-add j) in z)
-    vertices_repeat_often (suc t) j =
-        ap q (let e = suc-mul t n in let z : suc t * n + j ≡ n + (t * n + j) = omega arith in z) ∙ vertices_repeat (t * n + j) ∙ vertices_repeat_often t j
+    -- and so after any number of rounds
+    pub positions_repeat_often : (t j : ℕ) → q (t * n + j) ≡ q j
+    positions_repeat_often zero j = ap q (let e = zero-mul n in let z : 0 * n + j ≡ j = omega (arith, zero-add j) in z)
+    positions_repeat_often (suc t) j =
+        ap q (let e = suc-mul t n in let z : suc t * n + j ≡ n + (t * n + j) = omega arith in z) ∙ positions_repeat (t * n + j) ∙ positions_repeat_often t j
 
-    -- each vertex is one of the first n
-    pub vertex_below : (k : ℕ) → (m : ℕ) × (m < n) × (q k ≡ q m)
-    vertex_below k = (k % n, mod-lt k some_side, ap q (sym (div-add-mod' k n)) ∙ vertices_repeat_often (k / n) (k % n))
+    -- each position is that of one of the first n corners
+    pub position_below : (k : ℕ) → (m : ℕ) × (m < n) × (q k ≡ q m)
+    position_below k = (k % n, mod-lt k some_side, ap q (sym (div-add-mod' k n)) ∙ positions_repeat_often (k / n) (k % n))
 
-    -- and is reached from each side
-    pub vertex_after : (j k : ℕ) → (m : ℕ) × (q (j + m) ≡ q k)
-    vertex_after j k = go n refl
+    -- and comes again after corner j
+    pub position_after : (j k : ℕ) → (m : ℕ) × (q (j + m) ≡ q k)
+    position_after j k = go n refl
       where
         go : (m : ℕ) → n ≡ m → (m : ℕ) × (q (j + m) ≡ q k)
         go zero e = absurd (let l = some_side in omega arith)
         go (suc m) e =
             let size : j * n ≡ j * suc m = ap (λ (i : ℕ). j * i) e in
             let sum : j + (j * m + k) ≡ j * n + k = omega arith in
-            (j * m + k, ap q sum ∙ vertices_repeat_often j k)
+            (j * m + k, ap q sum ∙ positions_repeat_often j k)
 
     -- each direction is passed once
     pub turning_number_of_any : {v : Vector A} → v ≢ zero_vector R → rises R is_ahead v s n ≡ 1
     turning_number_of_any {v} m = winding.rises_of_any L test p.convex v (unit_vector R) n sides_return m unit-ne-zero ∙ p.turning_number
 
-    pub one_rise : {v : Vector A} → v ≢ zero_vector R → (i j : ℕ) → i < n → j < n → winding.IsRiseAt L test v s i → winding.IsRiseAt L test v s j → i ≡ j
+    -- by one corner
+    pub one_rise : {v : Vector A} → v ≢ zero_vector R → (i j : ℕ) → i < n → j < n → IsRiseAt R is_ahead v s i → IsRiseAt R is_ahead v s j → i ≡ j
     one_rise {v} m i j li lj = winding.one_rise L test p.convex v i j n (turning_number_of_any m) li lj
 
   -- a polygon from wherever its boundary begins
@@ -83,6 +86,6 @@ module _ {A : Type 0} {R : Operations A} {IsPositive : A → Type 0} (L : IsOrde
     convex = λ j. subst (λ (m : ℕ). InHalfPlane R IsPositive (s (a + j)) (s m)) (sym (add-suc a j)) (p.convex (a + j));
     repeats = λ j. ap s (let z : a + (n + j) ≡ n + (a + j) = omega arith in z) ∙ p.repeats (a + j);
     sides = λ j. ap q (add-suc a j) ∙ p.sides (a + j);
-    closed = ap q (let z : a + n ≡ n + a = omega arith in z) ∙ vertices_repeat p a ∙ ap q (sym (add-zero a));
+    closed = ap q (let z : a + n ≡ n + a = omega arith in z) ∙ positions_repeat p a ∙ ap q (sym (add-zero a));
     turning_number = rises-shift R is_ahead (unit_vector R) s n a p.repeats ∙ p.turning_number;
   }

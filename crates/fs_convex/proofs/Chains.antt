@@ -9,9 +9,9 @@ use Rattle.fs_ring.proofs.Plane as plane
 use Rattle.fs_ring.proofs.HalfPlanes as half_planes
 use Rattle.fs_lists.proofs.Counts.{one_if}
 use Rattle.fs_convex.specs.Counts.{count_below}
-use Rattle.fs_convex.specs.Corners.{DecidesHalfPlanes, HasConvexCorners, is_rise, rises, IsCutInTwo, IsTwoChains}
+use Rattle.fs_convex.specs.Turning.{DecidesHalfPlanes, HasConvexCorners, is_rise, rises, IsCutInTwo, IsTwoChains}
 use Rattle.fs_convex.proofs.Counts.{count_below-agree, count_below-add, some_passes, last_before_failure}
-use Rattle.fs_convex.proofs.Rises as corner
+use Rattle.fs_convex.proofs.Rises as at_corner
 use Rattle.fs_convex.proofs.Winding as winding
 use Rattle.fs_convex.proofs.Boundary.{rises-shift}
 
@@ -49,11 +49,11 @@ module _ {A : Type 0} {R : Operations A} {IsPositive : A → Type 0} (L : IsOrde
         let to_opposite : HalfPlane (s (suc k + m)) (neg_vector R d) = subst (λ w. HalfPlane w (neg_vector R d)) b_m (subst (HalfPlane (b m)) c.opposite_cuts (convex_second m)) in
         let from_opposite : HalfPlane (neg_vector R d) (s (suc k)) = subst (λ w. HalfPlane w (s (suc k))) c.opposite_cuts (subst (HalfPlane (b (suc m))) c.second_closed (convex_second (suc m))) in
         let at_end : HalfPlane (s (suc k + m)) (s 0) = subst (HalfPlane (s (suc k + m))) end (convex (suc k + m)) in
-        let first_corner = corner.rise_of_cut L test n to_cut from_opposite (convex k) in
-        let last_corner = corner.rise_of_cut L test n to_opposite (corner.half_plane_neg-neg L from_cut) at_end in
+        let first_corner = at_corner.rise_of_cut L test n to_cut from_opposite (convex k) in
+        let last_corner = at_corner.rise_of_cut L test n to_opposite (at_corner.half_plane_neg-neg L from_cut) at_end in
         let d-ne-zero = half_planes.half_plane-ne-zero L to_cut in
         let bits : one_if (is_ahead v d) + one_if (is_ahead v (neg_vector R d)) ≡ 1 =
-        (λ i. one_if (is_ahead v d) + one_if (corner.is_ahead-neg_right L test v d n d-ne-zero i)) ∙ one_of_two (is_ahead v d) in
+        (λ i. one_if (is_ahead v d) + one_if (at_corner.is_ahead-neg_right L test v d n d-ne-zero i)) ∙ one_of_two (is_ahead v d) in
         let a_rest : rises R is_ahead v a k ≡ count_below at_s k =
         count_below-agree _ _ k (λ j l. λ i. is_rise R is_ahead v (c.first j (omega arith) i) (c.first (suc j) (omega arith) i)) in
         let a_to : one_if (is_rise R is_ahead v (a k) d) ≡ one_if (is_rise R is_ahead v (s k) d) = ap (λ w. one_if (is_rise R is_ahead v w d)) a_k in
@@ -119,5 +119,5 @@ module _ {A : Type 0} {R : Operations A} {IsPositive : A → Type 0} (L : IsOrde
           some_ahead = chains.1;
           some_back = chains.2;
           ahead = λ j l. test.sound v (s (r + j)) (chains.3 j l);
-          back = λ j l m. corner.half_plane_of_not_ahead L test v-ne-zero (winding.side-ne-zero L test convex (r + j)) (chains.4 j l m);
+          back = λ j l m. at_corner.half_plane_of_not_ahead L test v-ne-zero (winding.side-ne-zero L test convex (r + j)) (chains.4 j l m);
         })

@@ -11,14 +11,14 @@ use Rattle.fs_ring.proofs.HalfPlanes as half_planes
 use Rattle.fs_ring.proofs.Turns as turns
 use Rattle.fs_ring.proofs.Solver.{expressions as E, numeral, ◌⊕◌, ◌⊗◌, ◌≐◌, ◌from◌}
 use Rattle.fs_ring.proofs.PlaneSolver.{plane_derived}
-use Rattle.fs_convex.specs.Corners.{DecidesHalfPlanes}
-use Rattle.fs_convex.specs.Polygon.{IsConvexPolygon, IsOffSide, left_of_side, beyond_end, before_start, LeavesRight}
+use Rattle.fs_convex.specs.Turning.{DecidesHalfPlanes, IsRiseAt}
+use Rattle.fs_convex.specs.Polygon.{IsConvexPolygon, IsOffSide, left_of_side, beyond_end, before_start, IsExit}
 use Rattle.fs_convex.proofs.Counts.{all_or_one_fails, last_before_failure}
-use Rattle.fs_convex.proofs.Positions.{From, never_right, further_left}
-use Rattle.fs_convex.proofs.Rises as corner
+use Rattle.fs_convex.proofs.Positions.{HoldsFrom, never_right, further_left}
+use Rattle.fs_convex.proofs.Rises as at_corner
 use Rattle.fs_convex.proofs.Winding as winding
 use Rattle.fs_convex.proofs.Boundary as boundary
-use Rattle.fs_convex.proofs.Vertices as vertices
+use Rattle.fs_convex.proofs.Corners as corners
 
 module _ {A : Type 0} {R : Operations A} {IsPositive : A → Type 0} (L : IsOrderedRing R IsPositive) where
   -- ---- points left of a vector that v is left of
@@ -109,7 +109,7 @@ module _ {A : Type 0} {R : Operations A} {IsPositive : A → Type 0} (L : IsOrde
     module _ {n : ℕ} {s q : ℕ → Vector A} (p : Polygon n s q) where
       -- ---- the exit
 
-      -- where side 0 points right of v, vertex 1 is right of the line and vertex m left of it, the boundary leaves the right side once
+      -- where side 0 points right of v, corner 1 is right of the line and corner m left of it, the boundary leaves the right side once
       module _ {v : Vector A} (down : IsPositive (cross R (s 0) v)) (i m : ℕ) (first : 1 ≤ i) (last : i < m) (most : m ≤ n)
           (right : (j : ℕ) → 1 ≤ j → j ≤ i → IsPositive (cross R (q j) v)) (not_right : ¬ IsPositive (cross R (q (suc i)) v)) (left : IsPositive (cross R v (q m))) where
         v-ne-zero : v ≢ zero_vector R
@@ -118,8 +118,8 @@ module _ {A : Type 0} {R : Operations A} {IsPositive : A → Type 0} (L : IsOrde
         up : IsPositive (cross R v (s i))
         up = side_left (p.sides i) (right i first (omega arith)) not_right
 
-        rise : (r : ℕ) × (0 ≤ r) × (r < 0 + i) × winding.IsRiseAt L test v s r
-        rise = winding.rise_between L test p.convex v-ne-zero 0 i (corner.not_ahead_of_half_plane L test (inside (turns.left_of_opposite L down)))
+        rise : (r : ℕ) × (0 ≤ r) × (r < 0 + i) × IsRiseAt R is_ahead v s r
+        rise = winding.rise_between L test p.convex v-ne-zero 0 i (at_corner.not_ahead_of_half_plane L test (inside (turns.left_of_opposite L down)))
             (ap (λ (j : ℕ). is_ahead v (s j)) (zero-add i) ∙ test.complete v (s i) (inside up))
 
         -- after side i, a side that isn't in the half plane of v is followed by such sides alone
@@ -146,7 +146,7 @@ module _ {A : Type 0} {R : Operations A} {IsPositive : A → Type 0} (L : IsOrde
         left_where_not j l a b c e =
             let there : j + (m - j) ≡ m = omega arith in
             let further = never_right L p.sides (neg_vector R v) j (m - j)
-            (λ k d f. half_planes.half_plane_non_negative L (corner.half_plane_of_not_ahead L test v-ne-zero (winding.side-ne-zero L test p.convex k) (later l k (omega arith) (omega arith) (omega arith) e))) in
+            (λ k d f. half_planes.half_plane_non_negative L (at_corner.half_plane_of_not_ahead L test v-ne-zero (winding.side-ne-zero L test p.convex k) (later l k (omega arith) (omega arith) (omega arith) e))) in
             directions.positive_by_plane L [] (v ∷ q j ∷ q m ∷ []) (λ v a b. cross E v a ≐ cross E v b ⊕ cross E (neg_vector E v) (sub_vector E b a)) refl
             (signs.add_positive_non_negative L left (subst (λ (l : ℕ). IsNonNegative R IsPositive (cross R (neg_vector R v) (sub_vector R (q l) (q j)))) there further))
 
@@ -157,7 +157,7 @@ module _ {A : Type 0} {R : Operations A} {IsPositive : A → Type 0} (L : IsOrde
         ]
 
       pub exit : (v : Vector A) (m : ℕ) → 2 ≤ m → m ≤ n → IsPositive (cross R (s 0) v) → IsPositive (cross R (q 1) v) → IsPositive (cross R v (q m))
-          → (i : ℕ) × LeavesRight R IsPositive v q i m
+          → (i : ℕ) × IsExit R IsPositive v q i m
       exit v m two most down right left = elim (last_before_failure (λ j. IsPositive (cross R (q j) v)) (λ j. right_or_not v (q j)) 1 (m - 1) right) [
         | inl all ↦ absurd (turns.not_both_crosses L left (all m (omega arith) (omega arith)))
         | inr e ↦ (e.0, record {
@@ -184,19 +184,19 @@ module _ {A : Type 0} {R : Operations A} {IsPositive : A → Type 0} (L : IsOrde
         entry_turn = (from_entry (q 0) (p.sides 0)).0
 
         inner : (k : ℕ) → IsPositive (cross R (s 0) (q k))
-        inner k = (from_entry (q k) (p.sides 0)).1 (vertices.vertex_not_right L test p 0 k)
+        inner k = (from_entry (q k) (p.sides 0)).1 (corners.corner_not_right L test p 0 k)
 
-        -- a vertex on the line is ahead
-        pub vertex_ahead_of_entry : (k : ℕ) → cross R v (q k) ≡ R.zero → IsPositive (dot R v (q k))
-        vertex_ahead_of_entry k e = ahead_on_line entry_turn (inner k) e
+        -- a corner on the line is ahead
+        pub corner_ahead_of_entry : (k : ℕ) → cross R v (q k) ≡ R.zero → IsPositive (dot R v (q k))
+        corner_ahead_of_entry k e = ahead_on_line entry_turn (inner k) e
 
         -- a side from right to left is crossed ahead
         pub side_ahead_of_entry : (j k : ℕ) → IsPositive (cross R (q j) v) → IsPositive (cross R v (q k)) → IsPositive (cross R (q j) (q k))
         side_ahead_of_entry j k h l = ahead_across entry_turn (inner j) (inner k) h l
 
-      -- ---- the line leaves ahead, where it begins at vertex 0
+      -- ---- the line leaves ahead, where it begins at corner 0
 
-      module _ {v : Vector A} (start : q 0 ≡ zero_vector R) {i m : ℕ} (e : LeavesRight R IsPositive v q i m) (most : m < n) where
+      module _ {v : Vector A} (start : q 0 ≡ zero_vector R) {i m : ℕ} (e : IsExit R IsPositive v q i m) (most : m < n) where
         -- the side by which the boundary leaves the right side is crossed ahead
         pub side_ahead_of_start : IsPositive (cross R (q i) (q (suc i)))
         side_ahead_of_start =
@@ -204,25 +204,25 @@ module _ {A : Type 0} {R : Operations A} {IsPositive : A → Type 0} (L : IsOrde
             (subst (λ w. IsOffSide R IsPositive (s i) (q i) (q (suc i)) w) (ap q to_n ∙ p.closed ∙ start)
             (subst (λ w. IsOffSide R IsPositive (s i) (q i) w (q (i + (n - i)))) (ap q (let z : i + 1 ≡ suc i = omega arith in z))
             (subst (λ (j : ℕ). IsOffSide R IsPositive (s j) (q j) (q (i + 1)) (q (i + (n - i)))) (add-zero i)
-            (vertices.vertex_off_side L test (boundary.polygon_from L test i p) (n - i) (omega (arith, e.before_last)) (omega (arith, e.before_last, e.not_first))))))
+            (corners.corner_off_side L test (boundary.polygon_from L test i p) (n - i) (omega (arith, e.before_last)) (omega (arith, e.before_last, e.not_first))))))
             (e.right_before i e.not_first (omega arith)) e.not_right
           where
             to_n : i + (n - i) ≡ n
             to_n = omega (arith, e.before_last)
 
             not_start : q (suc i) ≢ zero_vector R
-            not_start z = vertices.vertices_differ L test p 0 (suc i) (omega arith) (omega (arith, e.before_last)) (start ∙ sym z)
+            not_start z = corners.positions_differ L test p 0 (suc i) (omega arith) (omega (arith, e.before_last)) (start ∙ sym z)
 
-        -- a vertex at which it leaves is ahead
-        pub vertex_ahead_of_start : cross R v (q (suc i)) ≡ R.zero → IsPositive (dot R v (q (suc i)))
-        vertex_ahead_of_start z = ahead_on_line (e.right_before i e.not_first (omega arith)) side_ahead_of_start z
+        -- a corner at which it leaves is ahead
+        pub corner_ahead_of_start : cross R v (q (suc i)) ≡ R.zero → IsPositive (dot R v (q (suc i)))
+        corner_ahead_of_start z = ahead_on_line (e.right_before i e.not_first (omega arith)) side_ahead_of_start z
 
       -- ---- the line runs along side 0
 
-      -- a vertex ahead on the line of side 0 is the side's end, or beyond it
-      pub vertex_ahead_on_side : {v : Vector A} → q 0 ≡ zero_vector R → IsAlong R IsPositive (s 0) v → (k : ℕ) → k < n → cross R v (q k) ≡ R.zero
+      -- a corner ahead on the line of side 0 is the side's end, or beyond it
+      pub corner_ahead_on_side : {v : Vector A} → q 0 ≡ zero_vector R → IsAlong R IsPositive (s 0) v → (k : ℕ) → k < n → cross R v (q k) ≡ R.zero
           → IsPositive (dot R v (q k)) → (k ≡ 1) ⊎ IsPositive (dot R (s 0) (sub_vector R (q k) (q 1)))
-      vertex_ahead_on_side {v} start h k l e ahead = go (three k)
+      corner_ahead_on_side {v} start h k l e ahead = go (three k)
         where
           three : (k : ℕ) → (k ≡ 0) ⊎ ((k ≡ 1) ⊎ (2 ≤ k))
           three k = grind arith
@@ -230,7 +230,7 @@ module _ {A : Type 0} {R : Operations A} {IsPositive : A → Type 0} (L : IsOrde
           go : (k ≡ 0) ⊎ ((k ≡ 1) ⊎ (2 ≤ k)) → (k ≡ 1) ⊎ IsPositive (dot R (s 0) (sub_vector R (q k) (q 1)))
           go (inl z) = absurd (directions.dot_positive-ne-zero_right L ahead (ap q z ∙ start))
           go (inr (inl z)) = inl z
-          go (inr (inr m)) = elim (vertices.vertex_off_side L test p k m l) [
+          go (inr (inr m)) = elim (corners.corner_off_side L test p k m l) [
             | left_of_side r ↦
                 absurd (signs.positive-ne-zero L
                 (directions.along_cross L (q k) h

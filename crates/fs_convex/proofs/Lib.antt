@@ -3,6 +3,6 @@ pub mod Rises
 pub mod Positions
 pub mod Winding
 pub mod Boundary
-pub mod Vertices
+pub mod Corners
 pub mod Exits
 pub mod Chains

@@ -1,4 +1,4 @@
--- How far the vertices of a path are left of a line, from the directions of its sides. A library for crates to come.
+-- How far the corners of a path are left of a line, from the directions of its sides. A library for crates to come.
 use Rattle.std.proofs.Common.{◌≡◌, ℕ, zero, suc, ◌+◌, ◌<◌, ◌≤◌, ◌⊎◌, [], ◌∷◌, refl, sym, ap, ◌∙◌, subst, inl, inr, arith, add-zero, add-suc}
 use Rattle.fs_ring.specs.Operations.{Operations}
 use Rattle.fs_ring.specs.OrderedRing.{IsOrderedRing, IsNonNegative}
@@ -10,17 +10,17 @@ use Rattle.fs_ring.proofs.PlaneSolver.{plane_identity}
 use Rattle.fs_convex.specs.Polygon.{HasSides}
 
 -- what holds from a on for k numbers holds of one number less, and of the last
-abbrev pub From : (ℕ → Type 0) → ℕ → ℕ → Type 0
-From P a k = (j : ℕ) → a ≤ j → j < a + k → P j
+abbrev pub HoldsFrom : (ℕ → Type 0) → ℕ → ℕ → Type 0
+HoldsFrom P a k = (j : ℕ) → a ≤ j → j < a + k → P j
 
-pub from_fewer : (P : ℕ → Type 0) (a k : ℕ) → From P a (suc k) → From P a k
+pub from_fewer : (P : ℕ → Type 0) (a k : ℕ) → HoldsFrom P a (suc k) → HoldsFrom P a k
 from_fewer P a k h j l m = h j l (omega arith)
 
-pub from_last : (P : ℕ → Type 0) (a k : ℕ) → From P a (suc k) → P (a + k)
+pub from_last : (P : ℕ → Type 0) (a k : ℕ) → HoldsFrom P a (suc k) → P (a + k)
 from_last P a k h = h (a + k) (omega arith) (omega arith)
 
 -- and the other way round
-pub from_more : (P : ℕ → Type 0) (a k : ℕ) → From P a k → P (a + k) → From P a (suc k)
+pub from_more : (P : ℕ → Type 0) (a k : ℕ) → HoldsFrom P a k → P (a + k) → HoldsFrom P a (suc k)
 from_more P a k h last j l m = go (split j (a + k) (omega arith))
   where
     split : (j b : ℕ) → j < suc b → (j < b) ⊎ (j ≡ b)
@@ -61,31 +61,31 @@ module _ {A : Type 0} {R : Operations A} {IsPositive : A → Type 0} (L : IsOrde
     dot_none : (v : Vector A) (a : ℕ) → dot R v (sub_vector R (q (a + 0)) (q a)) ≡ 𝟘
     dot_none v a = dot_to_same v (ap q (add-zero a))
 
-    -- where no side points right of v, no vertex is further right than an earlier one
-    pub never_right : (v : Vector A) (a k : ℕ) → From (λ j. IsNonNegative R IsPositive (cross R v (s j))) a k
+    -- where no side points right of v, no corner is further right than an earlier one
+    pub never_right : (v : Vector A) (a k : ℕ) → HoldsFrom (λ j. IsNonNegative R IsPositive (cross R v (s j))) a k
         → IsNonNegative R IsPositive (cross R v (sub_vector R (q (a + k)) (q a)))
     never_right v a zero h = signs.non_negative_of_zero L (cross_none v a)
     never_right v a (suc k) h =
         subst (IsNonNegative R IsPositive) (sym (cross_step v a k))
         (signs.add_non_negative L (never_right v a k (from_fewer _ a k h)) (from_last (λ j. IsNonNegative R IsPositive (cross R v (s j))) a k h))
 
-    -- where the last vertex is no further left than the first, each side is parallel to v
-    pub all_parallel : (v : Vector A) (a k : ℕ) → From (λ j. IsNonNegative R IsPositive (cross R v (s j))) a k
-        → cross R v (sub_vector R (q (a + k)) (q a)) ≡ 𝟘 → From (λ j. cross R v (s j) ≡ 𝟘) a k
+    -- where the last corner is no further left than the first, each side is parallel to v
+    pub all_parallel : (v : Vector A) (a k : ℕ) → HoldsFrom (λ j. IsNonNegative R IsPositive (cross R v (s j))) a k
+        → cross R v (sub_vector R (q (a + k)) (q a)) ≡ 𝟘 → HoldsFrom (λ j. cross R v (s j) ≡ 𝟘) a k
     all_parallel v a zero h e = λ j l m. absurd (let n = add-zero a in omega arith)
     all_parallel v a (suc k) h e =
-        let before : From (λ j. IsNonNegative R IsPositive (cross R v (s j))) a k = from_fewer (λ j. IsNonNegative R IsPositive (cross R v (s j))) a k h in
+        let before : HoldsFrom (λ j. IsNonNegative R IsPositive (cross R v (s j))) a k = from_fewer (λ j. IsNonNegative R IsPositive (cross R v (s j))) a k h in
         let both = signs.both_zero L (never_right v a k before) (from_last (λ j. IsNonNegative R IsPositive (cross R v (s j))) a k h) (sym (cross_step v a k) ∙ e) in
         from_more (λ j. cross R v (s j) ≡ 𝟘) a k (all_parallel v a k before both.0) both.1
 
-    -- where some side points left of v and none right, the last vertex is further left than the first
-    pub further_left : (v : Vector A) (a k i : ℕ) → From (λ j. IsNonNegative R IsPositive (cross R v (s j))) a k
+    -- where some side points left of v and none right, the last corner is further left than the first
+    pub further_left : (v : Vector A) (a k i : ℕ) → HoldsFrom (λ j. IsNonNegative R IsPositive (cross R v (s j))) a k
         → a ≤ i → i < a + k → IsPositive (cross R v (s i)) → IsPositive (cross R v (sub_vector R (q (a + k)) (q a)))
     further_left v a k i h l m p =
         elim (signs.non_negative_cases L _ (never_right v a k h)) [ inl r ↦ r | inr e ↦ absurd (signs.positive-ne-zero L p (all_parallel v a k h e i l m)) ]
 
     -- sides that are parallel to v lead along the line
-    pub stays_parallel : (v : Vector A) (a k : ℕ) → From (λ j. cross R v (s j) ≡ 𝟘) a k → cross R v (sub_vector R (q (a + k)) (q a)) ≡ 𝟘
+    pub stays_parallel : (v : Vector A) (a k : ℕ) → HoldsFrom (λ j. cross R v (s j) ≡ 𝟘) a k → cross R v (sub_vector R (q (a + k)) (q a)) ≡ 𝟘
     stays_parallel v a zero h = cross_none v a
     stays_parallel v a (suc k) h =
         cross_step v a k
@@ -93,14 +93,14 @@ module _ {A : Type 0} {R : Operations A} {IsPositive : A → Type 0} (L : IsOrde
         ∙ L.add_zero 𝟘
 
     -- sides that make acute angles with v lead further along v
-    further_or_same : (v : Vector A) (a k : ℕ) → From (λ j. IsPositive (dot R v (s j))) a k → IsNonNegative R IsPositive (dot R v (sub_vector R (q (a + k)) (q a)))
+    further_or_same : (v : Vector A) (a k : ℕ) → HoldsFrom (λ j. IsPositive (dot R v (s j))) a k → IsNonNegative R IsPositive (dot R v (sub_vector R (q (a + k)) (q a)))
     further_or_same v a zero h = signs.non_negative_of_zero L (dot_none v a)
     further_or_same v a (suc k) h =
         subst (IsNonNegative R IsPositive) (sym (dot_step v a k))
         (signs.add_non_negative L (further_or_same v a k (from_fewer (λ j. IsPositive (dot R v (s j))) a k h))
         (signs.non_negative_of_positive L (from_last (λ j. IsPositive (dot R v (s j))) a k h)))
 
-    pub further_along : (v : Vector A) (a k : ℕ) → From (λ j. IsPositive (dot R v (s j))) a k → 0 < k → IsPositive (dot R v (sub_vector R (q (a + k)) (q a)))
+    pub further_along : (v : Vector A) (a k : ℕ) → HoldsFrom (λ j. IsPositive (dot R v (s j))) a k → 0 < k → IsPositive (dot R v (sub_vector R (q (a + k)) (q a)))
     further_along v a zero h l = absurd (omega arith)
     further_along v a (suc k) h l =
         signs.positive_of_eq L (dot_step v a k)

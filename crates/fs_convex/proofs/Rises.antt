@@ -13,7 +13,7 @@ use Rattle.fs_ring.proofs.Turns as turns
 use Rattle.fs_ring.proofs.Solver.{expressions as E, numeral, ◌≐◌, ◌from◌}
 use Rattle.fs_ring.proofs.PlaneSolver.{plane_derived, vector_identity, ◌≐ᵥ◌}
 use Rattle.fs_lists.proofs.Counts.{one_if}
-use Rattle.fs_convex.specs.Corners.{DecidesHalfPlanes, is_rise}
+use Rattle.fs_convex.specs.Turning.{DecidesHalfPlanes, is_rise}
 
 -- ---- tables over the tests
 

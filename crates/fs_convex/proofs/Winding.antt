@@ -13,11 +13,11 @@ use Rattle.fs_ring.proofs.Solver.{expressions as E, numeral, ◌≐◌, ◌from�
 use Rattle.fs_ring.proofs.PlaneSolver.{plane_derived}
 use Rattle.fs_lists.proofs.Counts.{one_if}
 use Rattle.fs_convex.specs.Counts.{count_below}
-use Rattle.fs_convex.specs.Corners.{DecidesHalfPlanes, HasConvexCorners, is_rise, rises}
+use Rattle.fs_convex.specs.Turning.{DecidesHalfPlanes, HasConvexCorners, is_rise, rises, IsRiseAt}
 use Rattle.fs_convex.specs.Polygon.{HasSides}
 use Rattle.fs_convex.proofs.Counts.{count_below-agree, count_below_at_most, one_passes, some_passes, change_between}
-use Rattle.fs_convex.proofs.Positions.{From, cross_to_same, dot_to_same, all_parallel, further_along}
-use Rattle.fs_convex.proofs.Rises as corner
+use Rattle.fs_convex.proofs.Positions.{HoldsFrom, cross_to_same, dot_to_same, all_parallel, further_along}
+use Rattle.fs_convex.proofs.Rises as at_corner
 
 -- what both tests say
 not_and_true : (a b : Bool) → not a && b ≡ true → (a ≡ false) × (b ≡ true)
@@ -51,29 +51,25 @@ module _ {A : Type 0} {R : Operations A} {IsPositive : A → Type 0} (L : IsOrde
   abbrev count : Vector A → (ℕ → Vector A) → ℕ → ℕ
   count v s k = rises R is_ahead v s k
 
-  -- the corner after side j passes v
-  abbrev pub IsRiseAt : Vector A → (ℕ → Vector A) → ℕ → Type 0
-  IsRiseAt v s j = is_rise R is_ahead v (s j) (s (suc j)) ≡ true
-
   module _ {s : ℕ → Vector A} (convex : HasConvexCorners R IsPositive s) where
     pub side-ne-zero : (j : ℕ) → s j ≢ zero_vector R
-    side-ne-zero j = corner.first_ray-ne-zero L (convex j)
+    side-ne-zero j = at_corner.first_ray-ne-zero L (convex j)
 
     -- ---- the same number of rises from each direction
 
     -- through k corners: the rises of v and of w, and the sides in the sector from v to w
     pub rises_of_sector : {v w : Vector A} → IsPositive (cross R v w) → (k : ℕ)
-        → corner.in_sector L test v w (s k) + count w s k ≡ corner.in_sector L test v w (s 0) + count v s k
+        → at_corner.in_sector L test v w (s k) + count w s k ≡ at_corner.in_sector L test v w (s 0) + count v s k
     rises_of_sector vw zero = refl
     rises_of_sector vw (suc k) =
         let rest = rises_of_sector vw k in
-        let here = corner.rise_of_sector L test vw (convex k) in
+        let here = at_corner.rise_of_sector L test vw (convex k) in
         omega arith
 
     rises_left : {v w : Vector A} (n : ℕ) → s n ≡ s 0 → IsPositive (cross R v w) → count w s n ≡ count v s n
     rises_left {v} {w} n e vw =
         let all = rises_of_sector vw n in
-        let same : corner.in_sector L test v w (s n) ≡ corner.in_sector L test v w (s 0) = ap (corner.in_sector L test v w) e in
+        let same : at_corner.in_sector L test v w (s n) ≡ at_corner.in_sector L test v w (s 0) = ap (at_corner.in_sector L test v w) e in
         omega arith
 
     rises_through : {v : Vector A} → v ≢ zero_vector R → (k : ℕ)
@@ -81,7 +77,7 @@ module _ {A : Type 0} {R : Operations A} {IsPositive : A → Type 0} (L : IsOrde
     rises_through m zero = refl
     rises_through m (suc k) =
         let rest = rises_through m k in
-        let here = corner.rise_of_opposite L test m (convex k) in
+        let here = at_corner.rise_of_opposite L test m (convex k) in
         omega arith
 
     -- a closed boundary passes -v as often as v
@@ -94,9 +90,9 @@ module _ {A : Type 0} {R : Operations A} {IsPositive : A → Type 0} (L : IsOrde
     rises_along : {u v : Vector A} (n : ℕ) → IsAlong R IsPositive u v → count u s n ≡ count v s n
     rises_along {u} {v} n h =
         count_below-agree _ _ n
-        (λ j l. corner.is_rise-ahead L test u (s j) (s (suc j)) (directions.dot_positive-ne-zero_left L h.same_way) (side-ne-zero j)
-        ∙ (λ i. not (corner.is_ahead_along L test (s j) h i) && corner.is_ahead_along L test (s (suc j)) h i)
-        ∙ sym (corner.is_rise-ahead L test v (s j) (s (suc j)) (directions.dot_positive-ne-zero_right L h.same_way) (side-ne-zero j)))
+        (λ j l. at_corner.is_rise-ahead L test u (s j) (s (suc j)) (directions.dot_positive-ne-zero_left L h.same_way) (side-ne-zero j)
+        ∙ (λ i. not (at_corner.is_ahead_along L test (s j) h i) && at_corner.is_ahead_along L test (s (suc j)) h i)
+        ∙ sym (at_corner.is_rise-ahead L test v (s j) (s (suc j)) (directions.dot_positive-ne-zero_right L h.same_way) (side-ne-zero j)))
 
     -- a closed boundary passes each direction as often as any other
     pub rises_of_any : (u v : Vector A) (n : ℕ) → s n ≡ s 0 → u ≢ zero_vector R → v ≢ zero_vector R → count u s n ≡ count v s n
@@ -114,31 +110,31 @@ module _ {A : Type 0} {R : Operations A} {IsPositive : A → Type 0} (L : IsOrde
     -- ---- where the rises are
 
     -- a rise by the half planes of its two sides
-    pub rise_of_half_planes : (v : Vector A) (j : ℕ) → HalfPlane (neg_vector R v) (s j) → HalfPlane v (s (suc j)) → IsRiseAt v s j
+    pub rise_of_half_planes : (v : Vector A) (j : ℕ) → HalfPlane (neg_vector R v) (s j) → HalfPlane v (s (suc j)) → IsRiseAt R is_ahead v s j
     rise_of_half_planes v j h k = λ i. test.complete (neg_vector R v) (s j) h i && test.complete v (s (suc j)) k i
 
-    pub rise_of_change : {v : Vector A} → v ≢ zero_vector R → (j : ℕ) → is_ahead v (s j) ≡ false → is_ahead v (s (suc j)) ≡ true → IsRiseAt v s j
-    rise_of_change {v} m j e f = corner.is_rise-ahead L test v (s j) (s (suc j)) m (side-ne-zero j) ∙ not_and e f
+    pub rise_of_change : {v : Vector A} → v ≢ zero_vector R → (j : ℕ) → is_ahead v (s j) ≡ false → is_ahead v (s (suc j)) ≡ true → IsRiseAt R is_ahead v s j
+    rise_of_change {v} m j e f = at_corner.is_rise-ahead L test v (s j) (s (suc j)) m (side-ne-zero j) ∙ not_and e f
 
-    pub change_of_rise : {v : Vector A} → v ≢ zero_vector R → (j : ℕ) → IsRiseAt v s j → (is_ahead v (s j) ≡ false) × (is_ahead v (s (suc j)) ≡ true)
-    change_of_rise {v} m j e = not_and_true _ _ (sym (corner.is_rise-ahead L test v (s j) (s (suc j)) m (side-ne-zero j)) ∙ e)
+    pub change_of_rise : {v : Vector A} → v ≢ zero_vector R → (j : ℕ) → IsRiseAt R is_ahead v s j → (is_ahead v (s j) ≡ false) × (is_ahead v (s (suc j)) ≡ true)
+    change_of_rise {v} m j e = not_and_true _ _ (sym (at_corner.is_rise-ahead L test v (s j) (s (suc j)) m (side-ne-zero j)) ∙ e)
 
     -- from a side that isn't in the half plane of v to a later one that is, there is a rise
     pub rise_between : {v : Vector A} → v ≢ zero_vector R → (a k : ℕ) → is_ahead v (s a) ≡ false → is_ahead v (s (a + k)) ≡ true
-        → (l : ℕ) × (a ≤ l) × (l < a + k) × IsRiseAt v s l
+        → (l : ℕ) × (a ≤ l) × (l < a + k) × IsRiseAt R is_ahead v s l
     rise_between {v} m a k e f =
         let c = change_between (λ j. is_ahead v (s j)) a k e f in
         (c.0, c.1, c.2, rise_of_change m c.0 c.3 c.4)
 
     -- of a boundary that passes v once two rises are one
-    pub one_rise : (v : Vector A) (i j n : ℕ) → count v s n ≡ 1 → i < n → j < n → IsRiseAt v s i → IsRiseAt v s j → i ≡ j
+    pub one_rise : (v : Vector A) (i j n : ℕ) → count v s n ≡ 1 → i < n → j < n → IsRiseAt R is_ahead v s i → IsRiseAt R is_ahead v s j → i ≡ j
     one_rise v i j n once li lj ei ej = one_passes _ i j n once li lj ei ej
 
     -- a closed boundary doesn't stay in a half plane
     pub not_one_sided : {q : ℕ → Vector A} → HasSides R q s → (v : Vector A) (n : ℕ) → 0 < n → q n ≡ q 0 → ((j : ℕ) → j < n → HalfPlane v (s j)) → ⊥
     not_one_sided {q} sides v n l closed h =
         let back : q (0 + n) ≡ q 0 = ap q (zero-add n) ∙ closed in
-        let parallel : From (λ j. cross R v (s j) ≡ R.zero) 0 n =
+        let parallel : HoldsFrom (λ j. cross R v (s j) ≡ R.zero) 0 n =
         all_parallel L sides v 0 n (λ j k m. half_planes.half_plane_non_negative L (h j (omega (arith, zero-add n)))) (cross_to_same L v back) in
         signs.positive-ne-zero L (further_along L sides v 0 n (λ j k m. same_way v (h j (omega (arith, zero-add n))) (parallel j k m)) l) (dot_to_same L v back)
       where
@@ -173,13 +169,13 @@ module _ {A : Type 0} {R : Operations A} {IsPositive : A → Type 0} (L : IsOrde
           | inr first ↦ not_one_sided sides (neg_vector R v) n l closed (λ j k.
               elim (cases_Bool (is_ahead v (s j))) [
                 | inl f ↦ absurd (no_rise none 0 j (omega (arith, zero-add j)) first (ap (λ (i : ℕ). is_ahead v (s i)) (zero-add j) ∙ f))
-                | inr f ↦ corner.half_plane_of_not_ahead L test m (side-ne-zero j) f
+                | inr f ↦ at_corner.half_plane_of_not_ahead L test m (side-ne-zero j) f
               ])
         ])
 
     -- the rises are the changes from a side that isn't in the half plane of v to one that is
     pub rises-changes : {v : Vector A} → v ≢ zero_vector R → (k : ℕ) → count v s k ≡ count_below (λ j. not (is_ahead v (s j)) && is_ahead v (s (suc j))) k
-    rises-changes {v} m k = count_below-agree _ _ k (λ j l. corner.is_rise-ahead L test v (s j) (s (suc j)) m (side-ne-zero j))
+    rises-changes {v} m k = count_below-agree _ _ k (λ j l. at_corner.is_rise-ahead L test v (s j) (s (suc j)) m (side-ne-zero j))
 
     -- a closed boundary of at most four sides passes each direction once
     pub one_rise_of_few : {q : ℕ → Vector A} → HasSides R q s → {v : Vector A} → v ≢ zero_vector R → (n : ℕ) → 0 < n → n ≤ 4 → s n ≡ s 0 → q n ≡ q 0 → count v s n ≡ 1

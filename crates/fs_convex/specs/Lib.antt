@@ -1,3 +1,3 @@
 pub mod Counts
-pub mod Corners
+pub mod Turning
 pub mod Polygon

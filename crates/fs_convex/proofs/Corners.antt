@@ -1,4 +1,4 @@
--- Where the vertices of a convex polygon are, seen from one of its sides. A library for crates to come.
+-- Where the corners of a convex polygon are, seen from one of its sides. A library for crates to come.
 use Rattle.std.proofs.Common.{◌≡◌, ◌≢◌, ◌⊎◌, ℕ, zero, suc, ◌+◌, ◌-◌, ◌<◌, ◌≤◌, Bool, true, false, [], ◌∷◌, refl, sym, ap, ◌∙◌, subst, inl, inr, arith, add-zero, add-suc, zero-add}
 use Rattle.std.proofs.lemmas.Bool.{cases_Bool}
 use Rattle.fs_ring.specs.Operations.{Operations}
@@ -11,11 +11,11 @@ use Rattle.fs_ring.proofs.HalfPlanes as half_planes
 use Rattle.fs_ring.proofs.Turns as turns
 use Rattle.fs_ring.proofs.Solver.{expressions as E, numeral, ◌≐◌, ◌from◌}
 use Rattle.fs_ring.proofs.PlaneSolver.{plane_identity, plane_derived}
-use Rattle.fs_convex.specs.Corners.{DecidesHalfPlanes}
-use Rattle.fs_convex.specs.Polygon.{IsConvexPolygon, IsOffSide, left_of_side, beyond_end, before_start}
+use Rattle.fs_convex.specs.Turning.{DecidesHalfPlanes, IsRiseAt}
+use Rattle.fs_convex.specs.Polygon.{IsConvexPolygon, IsOffSide, left_of_side, beyond_end, before_start, IsLeftOrOnLine, to_left, sides_before, sides_after}
 use Rattle.fs_convex.proofs.Counts.{all_or_one_fails, backwards}
-use Rattle.fs_convex.proofs.Positions.{From, cross_to_same, dot_to_same, never_right, all_parallel, stays_parallel, further_along}
-use Rattle.fs_convex.proofs.Rises as corner
+use Rattle.fs_convex.proofs.Positions.{HoldsFrom, cross_to_same, dot_to_same, never_right, all_parallel, stays_parallel, further_along}
+use Rattle.fs_convex.proofs.Rises as at_corner
 use Rattle.fs_convex.proofs.Winding as winding
 use Rattle.fs_convex.proofs.Boundary as boundary
 
@@ -51,12 +51,6 @@ module _ {A : Type 0} {R : Operations A} {IsPositive : A → Type 0} (L : IsOrde
   not_both_ways u a b p r =
       signs.not_both_signs L p (directions.positive_by_plane L [] (u ∷ a ∷ b ∷ []) (λ u a b. E.neg (dot E u (sub_vector E a b)) ≐ dot E u (sub_vector E b a)) refl r)
 
-  -- vertex k is left of side 0, or the sides before it are along side 0, or those after it are
-  pub data FromSide (n : ℕ) (s q : ℕ → Vector A) (k : ℕ) : Type 0 where
-    to_left : IsPositive (cross R (s 0) (sub_vector R (q k) (q 0))) → FromSide n s q k
-    sides_before : ((j : ℕ) → j < k → Along (s 0) (s j)) → FromSide n s q k
-    sides_after : ((j : ℕ) → k ≤ j → j < n → Along (s 0) (s j)) → FromSide n s q k
-
   module _ {is_ahead : Vector A → Vector A → Bool} (test : DecidesHalfPlanes R IsPositive is_ahead) where
     abbrev Polygon : ℕ → (ℕ → Vector A) → (ℕ → Vector A) → Type 0
     Polygon n s q = IsConvexPolygon R IsPositive is_ahead n s q
@@ -84,7 +78,7 @@ module _ {A : Type 0} {R : Operations A} {IsPositive : A → Type 0} (L : IsOrde
           to_j : l + (j - l) ≡ j
           to_j = omega arith
 
-          rise : (r : ℕ) × (l ≤ r) × (r < l + (j - l)) × winding.IsRiseAt L test u s r
+          rise : (r : ℕ) × (l ≤ r) × (r < l + (j - l)) × IsRiseAt R is_ahead u s r
           rise = winding.rise_between L test p.convex u-ne-zero l (j - l) e (ap (λ (i : ℕ). is_ahead u (s i)) to_j ∙ f)
 
           later : (i : ℕ) → j ≤ i → i < n → HalfPlane u (s i)
@@ -98,11 +92,12 @@ module _ {A : Type 0} {R : Operations A} {IsPositive : A → Type 0} (L : IsOrde
                 absurd (omega (arith, rise.2, again.1))
           ]
 
-      pub vertex_from_side : (k : ℕ) → k ≤ n → FromSide n s q k
-      vertex_from_side k l = elim (all_or_one_fails (λ j. is_ahead u (s j)) k) [
+      -- corner k is left of side 0, or the sides on one way to it are all along side 0
+      pub corner_from_side : (k : ℕ) → k ≤ n → IsLeftOrOnLine R IsPositive n s q k
+      corner_from_side k l = elim (all_or_one_fails (λ j. is_ahead u (s j)) k) [
         | inl all ↦
             let start : 0 + k ≡ k = zero-add k in
-            let ahead : From (λ j. IsNonNegative R IsPositive (cross R u (s j))) 0 k =
+            let ahead : HoldsFrom (λ j. IsNonNegative R IsPositive (cross R u (s j))) 0 k =
             (λ j a b. half_planes.half_plane_non_negative L (test.sound u (s j) (all j (omega arith)))) in
             elim (signs.non_negative_cases L _ (never_right L p.sides u 0 k ahead)) [
               | inl r ↦ to_left (subst (λ (i : ℕ). IsPositive (cross R u (sub_vector R (q i) (q 0)))) start r)
@@ -111,10 +106,10 @@ module _ {A : Type 0} {R : Operations A} {IsPositive : A → Type 0} (L : IsOrde
         | inr some ↦
             let to_n : k + (n - k) ≡ n = omega arith in
             let end : q (k + (n - k)) ≡ q 0 = ap q to_n ∙ p.closed in
-            let ahead : From (λ j. IsNonNegative R IsPositive (cross R (neg_vector R u) (s j))) k (n - k) =
+            let ahead : HoldsFrom (λ j. IsNonNegative R IsPositive (cross R (neg_vector R u) (s j))) k (n - k) =
             (λ j a b. elim (cases_Bool (is_ahead u (s j))) [
               | inl f ↦ signs.non_negative_of_zero L (opposite_parallel (s j) (along_after some.0 j (omega (arith, some.1)) (omega arith) some.2 f))
-              | inr f ↦ half_planes.half_plane_non_negative L (corner.half_plane_of_not_ahead L test u-ne-zero (winding.side-ne-zero L test p.convex j) f)
+              | inr f ↦ half_planes.half_plane_non_negative L (at_corner.half_plane_of_not_ahead L test u-ne-zero (winding.side-ne-zero L test p.convex j) f)
             ]) in
             elim (signs.non_negative_cases L _ (never_right L p.sides (neg_vector R u) k (n - k) ahead)) [
               | inl r ↦ to_left (signs.positive_of_eq L (sym (turned u (q 0) (q k))) (subst (λ w. IsPositive (cross R (neg_vector R u) (sub_vector R w (q k)))) end r))
@@ -130,11 +125,11 @@ module _ {A : Type 0} {R : Operations A} {IsPositive : A → Type 0} (L : IsOrde
           opposite_parallel : (x : Vector A) → Along u x → cross R (neg_vector R u) x ≡ R.zero
           opposite_parallel x h = plane_derived L.ring [] (u ∷ x ∷ []) (λ u x. cross E (neg_vector E u) x ≐ numeral 0 from (E.neg (numeral 1), cross E u x ≐ numeral 0) ∷ []) refl (h.parallel, tt)
 
-      -- ---- a vertex against side 0
+      -- ---- a corner against side 0
 
-      -- a vertex other than the side's two ends is off the side
-      pub vertex_off_side : (k : ℕ) → 2 ≤ k → k < n → IsOffSide R IsPositive u (q 0) (q 1) (q k)
-      vertex_off_side k l m = elim (vertex_from_side k (omega arith)) [
+      -- a corner other than the side's two ends is off the side
+      pub corner_off_side : (k : ℕ) → 2 ≤ k → k < n → IsOffSide R IsPositive u (q 0) (q 1) (q k)
+      corner_off_side k l m = elim (corner_from_side k (omega arith)) [
         | to_left r ↦ left_of_side r
         | sides_before h ↦
             let from_first : 1 + (k - 1) ≡ k = omega arith in
@@ -150,14 +145,14 @@ module _ {A : Type 0} {R : Operations A} {IsPositive : A → Type 0} (L : IsOrde
       ]
 
       -- where it is on the side's line, the sides on one way to it are along the side
-      pub sides_to_vertex_on_line : (k : ℕ) → k ≤ n → cross R u (sub_vector R (q k) (q 0)) ≡ R.zero
+      pub sides_to_corner_on_line : (k : ℕ) → k ≤ n → cross R u (sub_vector R (q k) (q 0)) ≡ R.zero
           → ((j : ℕ) → j < k → Along u (s j)) ⊎ ((j : ℕ) → k ≤ j → j < n → Along u (s j))
-      sides_to_vertex_on_line k l e =
-          elim (vertex_from_side k l) [ to_left r ↦ absurd (signs.positive-ne-zero L r e) | sides_before h ↦ inl h | sides_after h ↦ inr h ]
+      sides_to_corner_on_line k l e =
+          elim (corner_from_side k l) [ to_left r ↦ absurd (signs.positive-ne-zero L r e) | sides_before h ↦ inl h | sides_after h ↦ inr h ]
 
       -- where all corners are strictly convex, it is left of the side
-      pub vertex_left_of_side : ((j : ℕ) → IsPositive (cross R (s j) (s (suc j)))) → (k : ℕ) → 2 ≤ k → k < n → IsPositive (cross R u (sub_vector R (q k) (q 0)))
-      vertex_left_of_side strict k l m = elim (vertex_from_side k (omega arith)) [
+      pub corner_left_of_side : ((j : ℕ) → IsPositive (cross R (s j) (s (suc j)))) → (k : ℕ) → 2 ≤ k → k < n → IsPositive (cross R u (sub_vector R (q k) (q 0)))
+      corner_left_of_side strict k l m = elim (corner_from_side k (omega arith)) [
         | to_left r ↦ r
         | sides_before h ↦ absurd (turns.along_not_left L (h 1 (omega arith)) (strict 0))
         | sides_after h ↦
@@ -166,8 +161,8 @@ module _ {A : Type 0} {R : Operations A} {IsPositive : A → Type 0} (L : IsOrde
             (subst (λ w. IsPositive (cross R (s (n - 1)) w)) (ap s last ∙ boundary.sides_return L test p) (strict (n - 1))))
       ]
 
-      vertex_not_right_of_first : (k : ℕ) → k ≤ n → IsNonNegative R IsPositive (cross R u (sub_vector R (q k) (q 0)))
-      vertex_not_right_of_first k l = elim (vertex_from_side k l) [
+      corner_not_right_of_first : (k : ℕ) → k ≤ n → IsNonNegative R IsPositive (cross R u (sub_vector R (q k) (q 0)))
+      corner_not_right_of_first k l = elim (corner_from_side k l) [
         | to_left r ↦ signs.non_negative_of_positive L r
         | sides_before h ↦
             signs.non_negative_of_zero L
@@ -179,8 +174,8 @@ module _ {A : Type 0} {R : Operations A} {IsPositive : A → Type 0} (L : IsOrde
             (parallel_back u (q 0) (q k) (subst (λ w. cross R u (sub_vector R w (q k)) ≡ R.zero) end (stays_parallel L p.sides u k (n - k) (λ j a b. (h j a (omega arith)).parallel))))
       ]
 
-      vertex_not_first : (k : ℕ) → 0 < k → k < n → q k ≢ q 0
-      vertex_not_first k l m e = elim (vertex_from_side k (omega arith)) [
+      corner_not_first : (k : ℕ) → 0 < k → k < n → q k ≢ q 0
+      corner_not_first k l m e = elim (corner_from_side k (omega arith)) [
         | to_left r ↦ signs.positive-ne-zero L r (cross_to_same L u e)
         | sides_before h ↦
             signs.positive-ne-zero L (further_along L p.sides u 0 k (λ j a b. (h j (omega (arith, zero-add k))).same_way) l) (dot_to_same L u (ap q (zero-add k) ∙ e))
@@ -199,38 +194,38 @@ module _ {A : Type 0} {R : Operations A} {IsPositive : A → Type 0} (L : IsOrde
           go : (k ≡ 0) ⊎ ((k ≡ 1) ⊎ (2 ≤ k)) → ⊥
           go (inl z) = signs.positive-ne-zero L after (dot_to_same L u (ap q z))
           go (inr (inl z)) = signs.positive-ne-zero L before (dot_to_same L u (sym (ap q z)))
-          go (inr (inr m)) = elim (vertex_off_side k m l) [
+          go (inr (inr m)) = elim (corner_off_side k m l) [
             | left_of_side r ↦ signs.positive-ne-zero L r e
             | beyond_end z r ↦ not_both_ways u (q k) (q 1) r before
             | before_start z r ↦ not_both_ways u (q k) (q 0) after r
           ]
 
-    -- ---- a vertex against any side
+    -- ---- a corner against any side
 
     module _ {n : ℕ} {s q : ℕ → Vector A} (p : Polygon n s q) where
-      -- no vertex is right of a side
-      pub vertex_not_right : (j k : ℕ) → IsNonNegative R IsPositive (cross R (s j) (sub_vector R (q k) (q j)))
-      vertex_not_right j k =
-          let there = boundary.vertex_after L test p j k in
+      -- no corner is right of a side
+      pub corner_not_right : (j k : ℕ) → IsNonNegative R IsPositive (cross R (s j) (sub_vector R (q k) (q j)))
+      corner_not_right j k =
+          let there = boundary.position_after L test p j k in
           let from_j = boundary.polygon_from L test j p in
-          let small = boundary.vertex_below L test from_j there.0 in
+          let small = boundary.position_below L test from_j there.0 in
           subst (IsNonNegative R IsPositive)
           (λ i. cross R (s (add-zero j i)) (sub_vector R ((sym small.2 ∙ there.1) i) (q (add-zero j i))))
-          (vertex_not_right_of_first from_j small.0 (omega (arith, small.1)))
+          (corner_not_right_of_first from_j small.0 (omega (arith, small.1)))
 
-      -- the vertices differ
-      pub vertices_differ : (j k : ℕ) → j < k → k < n → q j ≢ q k
-      vertices_differ j k l m e =
+      -- the corners differ
+      pub positions_differ : (j k : ℕ) → j < k → k < n → q j ≢ q k
+      positions_differ j k l m e =
           let there : j + (k - j) ≡ k = omega arith in
-          vertex_not_first (boundary.polygon_from L test j p) (k - j) (omega arith) (omega arith) (ap q there ∙ sym e ∙ ap q (sym (add-zero j)))
+          corner_not_first (boundary.polygon_from L test j p) (k - j) (omega arith) (omega arith) (ap q there ∙ sym e ∙ ap q (sym (add-zero j)))
 
-      -- no vertex is strictly between the ends of a side
-      pub no_vertex_inside_side : (j k : ℕ) → cross R (s j) (sub_vector R (q k) (q j)) ≡ R.zero → IsPositive (dot R (s j) (sub_vector R (q k) (q j)))
+      -- no corner is strictly between the ends of a side
+      pub no_corner_inside_side : (j k : ℕ) → cross R (s j) (sub_vector R (q k) (q j)) ≡ R.zero → IsPositive (dot R (s j) (sub_vector R (q k) (q j)))
           → IsPositive (dot R (s j) (sub_vector R (q (suc j)) (q k))) → ⊥
-      no_vertex_inside_side j k e after before =
-          let there = boundary.vertex_after L test p j k in
+      no_corner_inside_side j k e after before =
+          let there = boundary.position_after L test p j k in
           let from_j = boundary.polygon_from L test j p in
-          let small = boundary.vertex_below L test from_j there.0 in
+          let small = boundary.position_below L test from_j there.0 in
           let same : q (j + small.0) ≡ q k = sym small.2 ∙ there.1 in
           let next : q (j + 1) ≡ q (suc j) = ap q (let z : j + 1 ≡ suc j = omega arith in z) in
           none_inside_first from_j small.0 small.1

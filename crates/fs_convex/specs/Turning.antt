@@ -1,4 +1,4 @@
--- Corners between a side and the next one, seen from a direction.
+-- Boundaries as sequences of sides: how they turn, seen from a direction. A library for crates to come.
 use Rattle.std.specs.Prelude.{◌≡◌, ℕ, suc, ◌+◌, ◌<◌, ◌≤◌, Bool, true, ◌&&◌}
 use Rattle.fs_ring.specs.Operations.{Operations}
 use Rattle.fs_ring.specs.Vector.{Vector, neg_vector}
@@ -15,14 +15,12 @@ module _ {A : Type 0} (R : Operations A) (IsPositive : A → Type 0) where
   abbrev pub HasConvexCorners : (ℕ → Vector A) → Type 0
   HasConvexCorners s = (j : ℕ) → InHalfPlane R IsPositive (s j) (s (suc j))
 
-module _ {A : Type 0} (R : Operations A) (is_ahead : Vector A → Vector A → Bool) where
-  -- the corner from x to y passes v: x is in the half plane of -v, and y in that of v
-  abbrev pub is_rise : Vector A → Vector A → Vector A → Bool
-  is_rise v x y = is_ahead (neg_vector R v) x && is_ahead v y
-
-  -- how many of the first k corners pass v
-  abbrev pub rises : Vector A → (ℕ → Vector A) → ℕ → ℕ
-  rises v s k = count_below (λ j. is_rise v (s j) (s (suc j))) k
+  -- of the n sides from side r on, the first h are in the half plane of v, and the others in that of -v
+  pub record IsTwoChains (v : Vector A) (s : ℕ → Vector A) (n r h : ℕ) : Type 0 where
+    pub some_ahead : 0 < h
+    pub some_back : h < n
+    pub ahead : (j : ℕ) → j < h → InHalfPlane R IsPositive v (s (r + j))
+    pub back : (j : ℕ) → h ≤ j → j < n → InHalfPlane R IsPositive (neg_vector R v) (s (r + j))
 
 module _ {A : Type 0} (R : Operations A) where
   -- the boundary s of k + m sides is cut in two: a has its first k sides and then the cut, b has the other m and then the opposite of the cut
@@ -34,10 +32,15 @@ module _ {A : Type 0} (R : Operations A) where
     pub second_closed : b (suc m) ≡ s k
     pub opposite_cuts : b m ≡ neg_vector R (a k)
 
-module _ {A : Type 0} (R : Operations A) (IsPositive : A → Type 0) where
-  -- of the n sides from side r on, the first h are in the half plane of v, and the others in that of -v
-  pub record IsTwoChains (v : Vector A) (s : ℕ → Vector A) (n r h : ℕ) : Type 0 where
-    pub some_ahead : 0 < h
-    pub some_back : h < n
-    pub ahead : (j : ℕ) → j < h → InHalfPlane R IsPositive v (s (r + j))
-    pub back : (j : ℕ) → h ≤ j → j < n → InHalfPlane R IsPositive (neg_vector R v) (s (r + j))
+  module _ (is_ahead : Vector A → Vector A → Bool) where
+    -- the corner from x to y passes v: x is in the half plane of -v, and y in that of v
+    abbrev pub is_rise : Vector A → Vector A → Vector A → Bool
+    is_rise v x y = is_ahead (neg_vector R v) x && is_ahead v y
+
+    -- how many of the first k corners pass v
+    abbrev pub rises : Vector A → (ℕ → Vector A) → ℕ → ℕ
+    rises v s k = count_below (λ j. is_rise v (s j) (s (suc j))) k
+
+    -- the corner after side j passes v
+    abbrev pub IsRiseAt : Vector A → (ℕ → Vector A) → ℕ → Type 0
+    IsRiseAt v s j = is_rise v (s j) (s (suc j)) ≡ true
