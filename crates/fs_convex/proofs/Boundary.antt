@@ -26,7 +26,7 @@ module _ {A : Type 0} (R : Operations A) where
 
 module _ {A : Type 0} {R : Operations A} {IsPositive : A → Type 0} (L : IsOrderedRing R IsPositive)
     {is_ahead : Vector A → Vector A → Bool} (test : DecidesHalfPlanes R IsPositive is_ahead) where
-  abbrev pub Polygon : ℕ → (ℕ → Vector A) → (ℕ → Vector A) → Type 0
+  abbrev Polygon : ℕ → (ℕ → Vector A) → (ℕ → Vector A) → Type 0
   Polygon n s q = IsConvexPolygon R IsPositive is_ahead n s q
 
   unit-ne-zero : unit_vector R ≢ zero_vector R

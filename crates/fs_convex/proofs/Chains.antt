@@ -2,15 +2,17 @@
 use Rattle.std.proofs.Common.{◌≡◌, ◌≢◌, ◌⊎◌, ℕ, zero, suc, ◌+◌, ◌-◌, ◌<◌, ◌≤◌, Bool, true, false, not, refl, sym, ap, ◌∙◌, subst, inl, inr, arith, add-zero, add-suc, zero-add}
 use Rattle.std.proofs.lemmas.Bool.{cases_Bool}
 use Rattle.fs_ring.specs.Operations.{Operations}
-use Rattle.fs_ring.specs.OrderedRing.{IsOrderedRing}
-use Rattle.fs_ring.specs.Vector.{Vector, zero_vector, neg_vector}
+use Rattle.fs_ring.specs.OrderedRing.{IsOrderedRing, IsNonNegative}
+use Rattle.fs_ring.specs.Vector.{Vector, zero_vector, neg_vector, sub_vector, cross}
 use Rattle.fs_ring.specs.Direction.{InHalfPlane}
 use Rattle.fs_ring.proofs.Plane as plane
 use Rattle.fs_ring.proofs.HalfPlanes as half_planes
 use Rattle.fs_lists.proofs.Counts.{one_if}
 use Rattle.fs_convex.specs.Counts.{count_below}
 use Rattle.fs_convex.specs.Turning.{DecidesHalfPlanes, HasConvexCorners, is_rise, rises, IsCutInTwo, IsTwoChains}
+use Rattle.fs_convex.specs.Polygon.{HasSides}
 use Rattle.fs_convex.proofs.Counts.{count_below-agree, count_below-add, some_passes, last_before_failure}
+use Rattle.fs_convex.proofs.Positions.{never_right}
 use Rattle.fs_convex.proofs.Rises as at_corner
 use Rattle.fs_convex.proofs.Winding as winding
 use Rattle.fs_convex.proofs.Boundary.{rises-shift}
@@ -73,6 +75,16 @@ module _ {A : Type 0} {R : Operations A} {IsPositive : A → Type 0} (L : IsOrde
         one_of_two true = refl
         one_of_two false = refl
 
+    -- where the boundary passes a direction once and both halves are closed, so do they
+    pub one_rise_of_halves : {v : Vector A} {f g : ℕ → Vector A} → v ≢ zero_vector R → (k m : ℕ) → 0 < k → 0 < m → IsCutInTwo R s a b k m
+        → rises R is_ahead v s (k + m) ≡ 1 → HasSides R f a → f (suc k) ≡ f 0 → HasSides R g b → g (suc m) ≡ g 0
+        → (rises R is_ahead v a (suc k) ≡ 1) × (rises R is_ahead v b (suc m) ≡ 1)
+    one_rise_of_halves {v} n k m lk lm c once first first_closed second second_closed =
+        let sum = rises_of_halves n k m lk lm c in
+        let one = winding.some_rise L test convex_first first n (suc k) (omega arith) (c.first_closed ∙ sym (c.first 0 lk)) first_closed in
+        let other = winding.some_rise L test convex_second second n (suc m) (omega arith) (c.second_closed ∙ ap s (sym (add-zero k)) ∙ sym (c.second 0 lm)) second_closed in
+        (omega arith, omega arith)
+
   -- ---- two chains
 
   module _ {v : Vector A} (v-ne-zero : v ≢ zero_vector R) where
@@ -121,3 +133,21 @@ module _ {A : Type 0} {R : Operations A} {IsPositive : A → Type 0} (L : IsOrde
           ahead = λ j l. test.sound v (s (r + j)) (chains.3 j l);
           back = λ j l m. at_corner.half_plane_of_not_ahead L test v-ne-zero (winding.side-ne-zero L test convex (r + j)) (chains.4 j l m);
         })
+
+  -- along the first chain no corner is further right of v than an earlier one
+  pub first_chain_never_right : {v : Vector A} {s q : ℕ → Vector A} {n r h : ℕ} → HasSides R q s → IsTwoChains R IsPositive v s n r h → (j k : ℕ) → j + k ≤ h
+      → IsNonNegative R IsPositive (cross R v (sub_vector R (q (r + j + k)) (q (r + j))))
+  first_chain_never_right {v} {s} {q} {n} {r} {h} sides c j k l =
+      never_right L sides v (r + j) k
+      (λ i a b.
+      let there : r + (i - r) ≡ i = omega arith in
+      half_planes.half_plane_non_negative L (subst (λ (m : ℕ). HalfPlane v (s m)) there (c.ahead (i - r) (omega arith))))
+
+  -- along the second none is further left
+  pub second_chain_never_left : {v : Vector A} {s q : ℕ → Vector A} {n r h : ℕ} → HasSides R q s → IsTwoChains R IsPositive v s n r h → (j k : ℕ) → h ≤ j → j + k ≤ n
+      → IsNonNegative R IsPositive (cross R (neg_vector R v) (sub_vector R (q (r + j + k)) (q (r + j))))
+  second_chain_never_left {v} {s} {q} {n} {r} {h} sides c j k l m =
+      never_right L sides (neg_vector R v) (r + j) k
+      (λ i a b.
+      let there : r + (i - r) ≡ i = omega arith in
+      half_planes.half_plane_non_negative L (subst (λ (m : ℕ). HalfPlane (neg_vector R v) (s m)) there (c.back (i - r) (omega arith) (omega arith))))

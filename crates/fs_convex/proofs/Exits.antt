@@ -102,6 +102,50 @@ module _ {A : Type 0} {R : Operations A} {IsPositive : A → Type 0} (L : IsOrde
       go (before_start z r) =
           absurd (elim (signs.non_negative_cases L _ (not_right_cross v y k)) [ inl l ↦ before (flat z) l r | inr f ↦ parallel_on_line (flat z) f ])
 
+  -- ---- which corners are right, on and left of a line
+
+  module _ {v : Vector A} {q : ℕ → Vector A} {i m : ℕ} (e : IsExit R IsPositive v q i m) where
+    three : (k : ℕ) → (k ≤ i) ⊎ ((k ≡ suc i) ⊎ (suc (suc i) ≤ k))
+    three k = grind arith
+
+    -- a corner that is right of the line comes before the exit
+    pub right_before_exit : (k : ℕ) → k ≤ m → IsPositive (cross R (q k) v) → k ≤ i
+    right_before_exit k l h = elim (three k) [
+      | inl a ↦ a
+      | inr s ↦
+          elim s [
+            | inl same ↦ absurd (e.not_right (subst (λ (j : ℕ). IsPositive (cross R (q j) v)) same h))
+            | inr a ↦ absurd (turns.not_both_crosses L h (e.left_after k a l))
+          ]
+    ]
+
+    -- a side from right to left is the exit
+    pub crossed_side_is_exit : (k : ℕ) → 1 ≤ k → k < m → IsPositive (cross R (q k) v) → IsPositive (cross R v (q (suc k))) → k ≡ i
+    crossed_side_is_exit k l h right left = elim (before_or_exit k (right_before_exit k (omega arith) right)) [
+      | inl same ↦ same
+      | inr less ↦ absurd (turns.not_both_crosses L left (e.right_before (suc k) (omega arith) less))
+    ]
+      where
+        before_or_exit : (k : ℕ) → k ≤ i → (k ≡ i) ⊎ (suc k ≤ i)
+        before_or_exit k l = grind arith
+
+    -- a corner on the line is the end of the exit
+    pub corner_on_line_is_exit : (k : ℕ) → 1 ≤ k → k ≤ m → cross R v (q k) ≡ R.zero → k ≡ suc i
+    corner_on_line_is_exit k l h z = elim (three k) [
+      | inl a ↦ absurd (signs.positive-ne-zero L (e.right_before k l a) (directions.parallel_comm L v (q k) z))
+      | inr s ↦ elim s [ inl same ↦ same | inr a ↦ absurd (signs.positive-ne-zero L (e.left_after k a h) z) ]
+    ]
+
+    -- it isn't corner m, where that is left of the line
+    pub exit_on_line_before_last : IsPositive (cross R v (q m)) → cross R v (q (suc i)) ≡ R.zero → suc i < m
+    exit_on_line_before_last left z = elim (before_or_last (suc i) m e.before_last) [
+      | inl l ↦ l
+      | inr same ↦ absurd (signs.positive-ne-zero L left (ap (λ (j : ℕ). cross R v (q j)) (sym same) ∙ z))
+    ]
+      where
+        before_or_last : (j m : ℕ) → j ≤ m → (j < m) ⊎ (j ≡ m)
+        before_or_last j m l = grind arith
+
   module _ {is_ahead : Vector A → Vector A → Bool} (test : DecidesHalfPlanes R IsPositive is_ahead) where
     abbrev Polygon : ℕ → (ℕ → Vector A) → (ℕ → Vector A) → Type 0
     Polygon n s q = IsConvexPolygon R IsPositive is_ahead n s q
@@ -109,7 +153,6 @@ module _ {A : Type 0} {R : Operations A} {IsPositive : A → Type 0} (L : IsOrde
     module _ {n : ℕ} {s q : ℕ → Vector A} (p : Polygon n s q) where
       -- ---- the exit
 
-      -- where side 0 points right of v, corner 1 is right of the line and corner m left of it, the boundary leaves the right side once
       module _ {v : Vector A} (down : IsPositive (cross R (s 0) v)) (i m : ℕ) (first : 1 ≤ i) (last : i < m) (most : m ≤ n)
           (right : (j : ℕ) → 1 ≤ j → j ≤ i → IsPositive (cross R (q j) v)) (not_right : ¬ IsPositive (cross R (q (suc i)) v)) (left : IsPositive (cross R v (q m))) where
         v-ne-zero : v ≢ zero_vector R
@@ -156,6 +199,7 @@ module _ {A : Type 0} {R : Operations A} {IsPositive : A → Type 0} (L : IsOrde
           | inr some ↦ left_where_not j (suc i + some.0) (omega arith) (omega (arith, some.1)) b some.2
         ]
 
+      -- where side 0 points right of v, corner 1 is right of the line and corner m left of it, the corners between come to the left once
       pub exit : (v : Vector A) (m : ℕ) → 2 ≤ m → m ≤ n → IsPositive (cross R (s 0) v) → IsPositive (cross R (q 1) v) → IsPositive (cross R v (q m))
           → (i : ℕ) × IsExit R IsPositive v q i m
       exit v m two most down right left = elim (last_before_failure (λ j. IsPositive (cross R (q j) v)) (λ j. right_or_not v (q j)) 1 (m - 1) right) [

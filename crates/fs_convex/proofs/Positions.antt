@@ -9,13 +9,15 @@ use Rattle.fs_ring.proofs.Solver.{expressions as E, numeral, ◌⊕◌, ◌≐�
 use Rattle.fs_ring.proofs.PlaneSolver.{plane_identity}
 use Rattle.fs_convex.specs.Polygon.{HasSides}
 
--- what holds from a on for k numbers holds of one number less, and of the last
+-- P holds of the k numbers from a on
 abbrev pub HoldsFrom : (ℕ → Type 0) → ℕ → ℕ → Type 0
 HoldsFrom P a k = (j : ℕ) → a ≤ j → j < a + k → P j
 
+-- then it holds of one number less
 pub from_fewer : (P : ℕ → Type 0) (a k : ℕ) → HoldsFrom P a (suc k) → HoldsFrom P a k
 from_fewer P a k h j l m = h j l (omega arith)
 
+-- and of the last number
 pub from_last : (P : ℕ → Type 0) (a k : ℕ) → HoldsFrom P a (suc k) → P (a + k)
 from_last P a k h = h (a + k) (omega arith) (omega arith)
 
@@ -34,11 +36,12 @@ module _ {A : Type 0} {R : Operations A} {IsPositive : A → Type 0} (L : IsOrde
   open R use {add as ◌⊞◌, zero as 𝟘}
 
   infixl 60 ◌⊞◌
-  -- from a point to itself
+  -- from a point to itself: no part left of v
   pub cross_to_same : {a b : Vector A} (v : Vector A) → a ≡ b → cross R v (sub_vector R a b) ≡ 𝟘
   cross_to_same {a} {b} v e =
       ap (λ w. cross R v (sub_vector R w b)) e ∙ plane_identity L.ring [] (v ∷ b ∷ []) (λ v b. cross E v (sub_vector E b b) ≐ numeral 0) refl
 
+  -- and none along v
   pub dot_to_same : {a b : Vector A} (v : Vector A) → a ≡ b → dot R v (sub_vector R a b) ≡ 𝟘
   dot_to_same {a} {b} v e =
       ap (λ w. dot R v (sub_vector R w b)) e ∙ plane_identity L.ring [] (v ∷ b ∷ []) (λ v b. dot E v (sub_vector E b b) ≐ numeral 0) refl

@@ -2,7 +2,7 @@
 use Rattle.std.proofs.Common.{◌≡◌, ◌≢◌, ◌⊎◌, ℕ, suc, ◌+◌, Bool, true, false, not, ◌&&◌, [], ◌∷◌, refl, sym, ap, ◌∙◌, subst, inl, inr}
 use Rattle.std.proofs.lemmas.Bool.{cases_Bool}
 use Rattle.fs_ring.specs.Operations.{Operations}
-use Rattle.fs_ring.specs.OrderedRing.{IsOrderedRing}
+use Rattle.fs_ring.specs.OrderedRing.{IsOrderedRing, Sign, positive, null, negative}
 use Rattle.fs_ring.specs.Vector.{Vector, zero_vector, neg_vector, cross, dot}
 use Rattle.fs_ring.specs.Direction.{IsAlong, InHalfPlane, at_start, inside}
 use Rattle.fs_ring.proofs.Signs as signs
@@ -66,9 +66,43 @@ opposite_table true false = refl
 opposite_table false true = refl
 opposite_table false false = refl
 
+-- ---- a test by signs
+
+module _ {A : Type 0} {R : Operations A} {IsPositive : A → Type 0} where
+  -- left of the first ray, or along it, by the signs of the cross and the dot product
+  abbrev pub ahead_by_signs : {x y : A} → Sign R IsPositive x → Sign R IsPositive y → Bool
+  ahead_by_signs (positive p) t = true
+  ahead_by_signs (negative p) t = false
+  ahead_by_signs (null e) (positive p) = true
+  ahead_by_signs (null e) (null f) = false
+  ahead_by_signs (null e) (negative p) = false
+
 module _ {A : Type 0} {R : Operations A} {IsPositive : A → Type 0} (L : IsOrderedRing R IsPositive) where
   abbrev HalfPlane : Vector A → Vector A → Type 0
   HalfPlane w v = InHalfPlane R IsPositive w v
+
+  -- the test by signs is one that the lemmas here ask for
+  pub signs_decide_half_planes : DecidesHalfPlanes R IsPositive (λ v x. ahead_by_signs (L.trichotomy (cross R v x)) (L.trichotomy (dot R v x)))
+  signs_decide_half_planes = record {
+    sound = λ v x e. sound v x (L.trichotomy (cross R v x)) (L.trichotomy (dot R v x)) e;
+    complete = λ v x h. complete v x (L.trichotomy (cross R v x)) (L.trichotomy (dot R v x)) h;
+  }
+    where
+      sound : (v x : Vector A) (s : Sign R IsPositive (cross R v x)) (t : Sign R IsPositive (dot R v x)) → ahead_by_signs s t ≡ true → HalfPlane v x
+      sound v x (positive p) t e = inside p
+      sound v x (negative p) t e = cc
+      sound v x (null z) (positive p) e = at_start (record { parallel = z; same_way = p })
+      sound v x (null z) (null f) e = cc
+      sound v x (null z) (negative p) e = cc
+
+      complete : (v x : Vector A) (s : Sign R IsPositive (cross R v x)) (t : Sign R IsPositive (dot R v x)) → HalfPlane v x → ahead_by_signs s t ≡ true
+      complete v x (positive p) t h = refl
+      complete v x (negative p) t h = absurd (half_planes.half_plane_non_negative L h p)
+      complete v x (null z) (positive p) h = refl
+      complete v x (null z) (null f) (inside p) = absurd (signs.positive-ne-zero L p z)
+      complete v x (null z) (null f) (at_start k) = absurd (signs.positive-ne-zero L k.same_way f)
+      complete v x (null z) (negative p) (inside r) = absurd (signs.positive-ne-zero L r z)
+      complete v x (null z) (negative p) (at_start k) = absurd (signs.not_both_signs L k.same_way p)
 
   -- ---- half planes of v and of -v
 
@@ -77,6 +111,7 @@ module _ {A : Type 0} {R : Operations A} {IsPositive : A → Type 0} (L : IsOrde
   first_ray-ne-zero (at_start h) = directions.dot_positive-ne-zero_left L h.same_way
   first_ray-ne-zero (inside p) = directions.cross_positive-ne-zero_left L p
 
+  -- the opposite of a vector that isn't zero isn't zero
   pub neg_vector-ne-zero : {v : Vector A} → v ≢ zero_vector R → neg_vector R v ≢ zero_vector R
   neg_vector-ne-zero {v} n e = n (sym (plane.neg_vector-neg L.ring v) ∙ ap (neg_vector R) e ∙ neg_zero)
     where
@@ -96,6 +131,7 @@ module _ {A : Type 0} {R : Operations A} {IsPositive : A → Type 0} (L : IsOrde
   pub half_plane_of_neg-neg : {v x : Vector A} → HalfPlane (neg_vector R (neg_vector R v)) x → HalfPlane v x
   half_plane_of_neg-neg {v} {x} = subst (λ w. HalfPlane w x) (plane.neg_vector-neg L.ring v)
 
+  -- and the vector is the opposite of its opposite
   pub half_plane_neg-neg : {v x : Vector A} → HalfPlane v x → HalfPlane (neg_vector R (neg_vector R v)) x
   half_plane_neg-neg {v} {x} = subst (λ w. HalfPlane w x) (sym (plane.neg_vector-neg L.ring v))
 
@@ -134,10 +170,12 @@ module _ {A : Type 0} {R : Operations A} {IsPositive : A → Type 0} (L : IsOrde
     half_plane_of_not_ahead {v} {x} m n e =
         elim (half_planes.half_plane_cases L v x m n) [ inl h ↦ absurd (let f = test.complete v x h in cc) | inr h ↦ h ]
 
+    -- what is in the half plane of -v isn't in that of v
     pub not_ahead_of_half_plane : {v x : Vector A} → HalfPlane (neg_vector R v) x → is_ahead v x ≡ false
     not_ahead_of_half_plane {v} {x} h =
         elim (cases_Bool (is_ahead v x)) [ inl e ↦ absurd (half_planes.half_plane_one L (test.sound v x e) h) | inr e ↦ e ]
 
+    -- the test of -v is the negation of that of v
     pub is_ahead-neg_left : (v x : Vector A) → v ≢ zero_vector R → x ≢ zero_vector R → is_ahead (neg_vector R v) x ≡ not (is_ahead v x)
     is_ahead-neg_left v x m n =
         elim (half_planes.half_plane_cases L v x m n) [
@@ -145,6 +183,7 @@ module _ {A : Type 0} {R : Operations A} {IsPositive : A → Type 0} (L : IsOrde
           | inr h ↦ test.complete (neg_vector R v) x h ∙ sym (ap not (not_ahead_of_half_plane h))
         ]
 
+    -- so is the test of the opposite vector
     pub is_ahead-neg_right : (v x : Vector A) → v ≢ zero_vector R → x ≢ zero_vector R → is_ahead v (neg_vector R x) ≡ not (is_ahead v x)
     is_ahead-neg_right v x m n =
         elim (half_planes.half_plane_cases L v x m n) [
@@ -167,6 +206,10 @@ module _ {A : Type 0} {R : Operations A} {IsPositive : A → Type 0} (L : IsOrde
     -- a corner is a rise where the side before isn't in the half plane of v, and the side after is
     pub is_rise-ahead : (v x y : Vector A) → v ≢ zero_vector R → x ≢ zero_vector R → rise v x y ≡ not (is_ahead v x) && is_ahead v y
     is_rise-ahead v x y m n = ap (λ b. b && is_ahead v y) (is_ahead-neg_left v x m n)
+
+    -- or where both the opposite of the side before and the side after are in it
+    pub is_rise-opposite_side : (v x y : Vector A) → v ≢ zero_vector R → x ≢ zero_vector R → rise v x y ≡ is_ahead v (neg_vector R x) && is_ahead v y
+    is_rise-opposite_side v x y m n = ap (λ b. b && is_ahead v y) (is_ahead-neg_left v x m n ∙ sym (is_ahead-neg_right v x m n))
 
     -- ---- two corners as one
 

@@ -52,6 +52,7 @@ module _ {A : Type 0} {R : Operations A} {IsPositive : A → Type 0} (L : IsOrde
   count v s k = rises R is_ahead v s k
 
   module _ {s : ℕ → Vector A} (convex : HasConvexCorners R IsPositive s) where
+    -- no side is zero
     pub side-ne-zero : (j : ℕ) → s j ≢ zero_vector R
     side-ne-zero j = at_corner.first_ray-ne-zero L (convex j)
 
@@ -113,9 +114,11 @@ module _ {A : Type 0} {R : Operations A} {IsPositive : A → Type 0} (L : IsOrde
     pub rise_of_half_planes : (v : Vector A) (j : ℕ) → HalfPlane (neg_vector R v) (s j) → HalfPlane v (s (suc j)) → IsRiseAt R is_ahead v s j
     rise_of_half_planes v j h k = λ i. test.complete (neg_vector R v) (s j) h i && test.complete v (s (suc j)) k i
 
+    -- or by the test: it isn't true of the first side, and is true of the second
     pub rise_of_change : {v : Vector A} → v ≢ zero_vector R → (j : ℕ) → is_ahead v (s j) ≡ false → is_ahead v (s (suc j)) ≡ true → IsRiseAt R is_ahead v s j
     rise_of_change {v} m j e f = at_corner.is_rise-ahead L test v (s j) (s (suc j)) m (side-ne-zero j) ∙ not_and e f
 
+    -- which each rise says
     pub change_of_rise : {v : Vector A} → v ≢ zero_vector R → (j : ℕ) → IsRiseAt R is_ahead v s j → (is_ahead v (s j) ≡ false) × (is_ahead v (s (suc j)) ≡ true)
     change_of_rise {v} m j e = not_and_true _ _ (sym (at_corner.is_rise-ahead L test v (s j) (s (suc j)) m (side-ne-zero j)) ∙ e)
 
