@@ -1,11 +1,10 @@
 -- The boundary of a convex polygon: where it begins doesn't matter, and each direction is passed once. A library for crates to come.
-use Rattle.std.proofs.Common.{◌≡◌, ◌≢◌, ℕ, zero, suc, ◌+◌, ◌*◌, ◌/◌, ◌%◌, ◌-◌, ◌<◌, ◌≤◌, Bool, refl, sym, ap, ◌∙◌, subst, arith, add-zero, add-suc, zero-add, zero-mul, suc-mul, div-add-mod', mod-lt}
+use Rattle.std.proofs.Common.{◌≡◌, ◌≢◌, ℕ, zero, suc, ◌+◌, ◌*◌, ◌/◌, ◌%◌, ◌<◌, Bool, refl, sym, ap, ◌∙◌, subst, arith, add-zero, add-suc, zero-add, zero-mul, suc-mul, div-add-mod', mod-lt}
 use Rattle.fs_ring.specs.Operations.{Operations}
 use Rattle.fs_ring.specs.OrderedRing.{IsOrderedRing}
 use Rattle.fs_ring.specs.Vector.{Vector, zero_vector, unit_vector, add_vector}
 use Rattle.fs_ring.specs.Direction.{InHalfPlane}
 use Rattle.fs_ring.proofs.Signs as signs
-use Rattle.fs_convex.specs.Counts.{count_below}
 use Rattle.fs_convex.specs.Turning.{DecidesHalfPlanes, is_rise, rises, IsRiseAt}
 use Rattle.fs_convex.specs.Polygon.{position, HasSides, IsConvexPolygon}
 use Rattle.fs_convex.proofs.Counts.{count_below-agree, count_below-shift}

@@ -126,13 +126,16 @@ module _ {A : Type 0} {R : Operations A} {IsPositive : A → Type 0} (L : IsOrde
         n (omega (arith, rise.1)) (rises-shift R is_ahead v s n r repeats ∙ once)
         (ap s round ∙ repeats r ∙ ap s (sym (add-zero r)))
         (ap (λ (m : ℕ). is_ahead v (s m)) (add-zero r) ∙ bits.1)
-        (ap (λ (m : ℕ). is_ahead v (s m)) last ∙ ap (is_ahead v) (repeats rise.0) ∙ bits.0) in
-        (r, chains.0, record {
-          some_ahead = chains.1;
-          some_back = chains.2;
-          ahead = λ j l. test.sound v (s (r + j)) (chains.3 j l);
-          back = λ j l m. at_corner.half_plane_of_not_ahead L test v-ne-zero (winding.side-ne-zero L test convex (r + j)) (chains.4 j l m);
-        })
+        (ap (λ (m : ℕ). is_ahead v (s m)) last ∙ ap (is_ahead v) (repeats rise.0) ∙ bits.0) in (
+          r,
+          chains.0,
+          record {
+            some_ahead = chains.1;
+            some_back = chains.2;
+            ahead = λ j l. test.sound v (s (r + j)) (chains.3 j l);
+            back = λ j l m. at_corner.half_plane_of_not_ahead L test v-ne-zero (winding.side-ne-zero L test convex (r + j)) (chains.4 j l m);
+          },
+        )
 
   -- along the first chain no corner is further right of v than an earlier one
   pub first_chain_never_right : {v : Vector A} {s q : ℕ → Vector A} {n r h : ℕ} → HasSides R q s → IsTwoChains R IsPositive v s n r h → (j k : ℕ) → j + k ≤ h

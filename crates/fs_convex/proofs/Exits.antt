@@ -1,10 +1,10 @@
 -- Where a line leaves a convex polygon, and that it leaves ahead of where it came in. A library for crates to come.
-use Rattle.std.proofs.Common.{◌≡◌, ◌≢◌, ◌⊎◌, ℕ, zero, suc, ◌+◌, ◌-◌, ◌<◌, ◌≤◌, Bool, true, false, [], ◌∷◌, refl, sym, ap, ◌∙◌, subst, inl, inr, arith, add-zero, zero-add}
+use Rattle.std.proofs.Common.{◌≡◌, ◌≢◌, ◌⊎◌, ℕ, suc, ◌+◌, ◌-◌, ◌<◌, ◌≤◌, Bool, true, false, [], ◌∷◌, refl, sym, ap, ◌∙◌, subst, inl, inr, arith, add-zero, zero-add}
 use Rattle.std.proofs.lemmas.Bool.{cases_Bool}
 use Rattle.fs_ring.specs.Operations.{Operations}
 use Rattle.fs_ring.specs.OrderedRing.{IsOrderedRing, positive, null, negative, IsNonNegative}
 use Rattle.fs_ring.specs.Vector.{Vector, zero_vector, add_vector, neg_vector, sub_vector, cross, dot, norm}
-use Rattle.fs_ring.specs.Direction.{IsAlong, InHalfPlane, inside}
+use Rattle.fs_ring.specs.Direction.{IsAlong, inside}
 use Rattle.fs_ring.proofs.Signs as signs
 use Rattle.fs_ring.proofs.Directions as directions
 use Rattle.fs_ring.proofs.HalfPlanes as half_planes
@@ -14,7 +14,7 @@ use Rattle.fs_ring.proofs.PlaneSolver.{plane_derived}
 use Rattle.fs_convex.specs.Turning.{DecidesHalfPlanes, IsRiseAt}
 use Rattle.fs_convex.specs.Polygon.{IsConvexPolygon, IsOffSide, left_of_side, beyond_end, before_start, IsExit}
 use Rattle.fs_convex.proofs.Counts.{all_or_one_fails, last_before_failure}
-use Rattle.fs_convex.proofs.Positions.{HoldsFrom, never_right, further_left}
+use Rattle.fs_convex.proofs.Positions.{never_right, further_left}
 use Rattle.fs_convex.proofs.Rises as at_corner
 use Rattle.fs_convex.proofs.Winding as winding
 use Rattle.fs_convex.proofs.Boundary as boundary
@@ -204,13 +204,16 @@ module _ {A : Type 0} {R : Operations A} {IsPositive : A → Type 0} (L : IsOrde
           → (i : ℕ) × IsExit R IsPositive v q i m
       exit v m two most down right left = elim (last_before_failure (λ j. IsPositive (cross R (q j) v)) (λ j. right_or_not v (q j)) 1 (m - 1) right) [
         | inl all ↦ absurd (turns.not_both_crosses L left (all m (omega arith) (omega arith)))
-        | inr e ↦ (e.0, record {
+        | inr e ↦ (
+          e.0,
+          record {
             not_first = e.1;
             before_last = omega (arith, e.2);
             right_before = e.3;
             not_right = e.4;
             left_after = left_after down e.0 m e.1 (omega (arith, e.2)) most e.3 e.4 left;
-          })
+          },
+        )
       ]
 
       -- ---- the line leaves ahead, where it came in by side 0

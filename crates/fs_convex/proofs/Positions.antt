@@ -3,7 +3,6 @@ use Rattle.std.proofs.Common.{◌≡◌, ℕ, zero, suc, ◌+◌, ◌<◌, ◌�
 use Rattle.fs_ring.specs.Operations.{Operations}
 use Rattle.fs_ring.specs.OrderedRing.{IsOrderedRing, IsNonNegative}
 use Rattle.fs_ring.specs.Vector.{Vector, add_vector, sub_vector, cross, dot}
-use Rattle.fs_ring.proofs.RingLaws as ring
 use Rattle.fs_ring.proofs.Signs as signs
 use Rattle.fs_ring.proofs.Solver.{expressions as E, numeral, ◌⊕◌, ◌≐◌}
 use Rattle.fs_ring.proofs.PlaneSolver.{plane_identity}
@@ -95,7 +94,6 @@ module _ {A : Type 0} {R : Operations A} {IsPositive : A → Type 0} (L : IsOrde
         ∙ (λ i. stays_parallel v a k (from_fewer (λ j. cross R v (s j) ≡ 𝟘) a k h) i ⊞ from_last (λ j. cross R v (s j) ≡ 𝟘) a k h i)
         ∙ L.add_zero 𝟘
 
-    -- sides that make acute angles with v lead further along v
     further_or_same : (v : Vector A) (a k : ℕ) → HoldsFrom (λ j. IsPositive (dot R v (s j))) a k → IsNonNegative R IsPositive (dot R v (sub_vector R (q (a + k)) (q a)))
     further_or_same v a zero h = signs.non_negative_of_zero L (dot_none v a)
     further_or_same v a (suc k) h =
@@ -103,6 +101,7 @@ module _ {A : Type 0} {R : Operations A} {IsPositive : A → Type 0} (L : IsOrde
         (signs.add_non_negative L (further_or_same v a k (from_fewer (λ j. IsPositive (dot R v (s j))) a k h))
         (signs.non_negative_of_positive L (from_last (λ j. IsPositive (dot R v (s j))) a k h)))
 
+    -- sides that make acute angles with v lead further along v
     pub further_along : (v : Vector A) (a k : ℕ) → HoldsFrom (λ j. IsPositive (dot R v (s j))) a k → 0 < k → IsPositive (dot R v (sub_vector R (q (a + k)) (q a)))
     further_along v a zero h l = absurd (omega arith)
     further_along v a (suc k) h l =

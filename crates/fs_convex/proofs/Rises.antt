@@ -1,5 +1,5 @@
 -- A corner of a boundary seen from a direction, and two corners in turn. A library for crates to come.
-use Rattle.std.proofs.Common.{◌≡◌, ◌≢◌, ◌⊎◌, ℕ, suc, ◌+◌, Bool, true, false, not, ◌&&◌, [], ◌∷◌, refl, sym, ap, ◌∙◌, subst, inl, inr}
+use Rattle.std.proofs.Common.{◌≡◌, ◌≢◌, ℕ, ◌+◌, Bool, true, false, not, ◌&&◌, [], ◌∷◌, refl, sym, ap, ◌∙◌, subst, inl, inr}
 use Rattle.std.proofs.lemmas.Bool.{cases_Bool}
 use Rattle.fs_ring.specs.Operations.{Operations}
 use Rattle.fs_ring.specs.OrderedRing.{IsOrderedRing, Sign, positive, null, negative}
@@ -224,7 +224,7 @@ module _ {A : Type 0} {R : Operations A} {IsPositive : A → Type 0} (L : IsOrde
         (λ a b c. no_turn_over (test.sound v x a) (half_plane_of_not_ahead m ny b) (test.sound v z c) xy yz xz)
         (λ a b c. no_turn_over (half_plane_of_not_ahead m nx a) (half_plane_neg-neg (test.sound v y b)) (half_plane_of_not_ahead m nz c) xy yz xz) in
         ap one_if (is_rise-ahead v x z m nx) ∙ table
-            ∙ sym (λ i. one_if (is_rise-ahead v x y m nx i) + one_if (is_rise-ahead v y z m ny i))
+        ∙ sym (λ i. one_if (is_rise-ahead v x y m nx i) + one_if (is_rise-ahead v y z m ny i))
 
     -- a cut d from the corner between p and n: the corners of the two parts rise as the whole corner and the cut
     pub rise_of_cut : {v p d n : Vector A} → v ≢ zero_vector R → HalfPlane p d → HalfPlane (neg_vector R d) n → HalfPlane p n
@@ -241,7 +241,7 @@ module _ {A : Type 0} {R : Operations A} {IsPositive : A → Type 0} (L : IsOrde
         (λ a b c. no_cut_over (test.sound v p a) (test.sound v d b) (half_plane_of_not_ahead m nn c) left right pn)
         (λ a b c. no_cut_over (half_plane_of_not_ahead m np a) (half_plane_of_not_ahead m nd b) (half_plane_neg-neg (test.sound v n c)) left right pn) in
         ap (λ b. one_if b + one_if (is_ahead v d)) (is_rise-ahead v p n m np) ∙ table
-            ∙ sym (λ i. one_if (is_rise-ahead v p d m np i) + one_if ((is_rise-ahead v (neg_vector R d) n m (neg_vector-ne-zero nd) ∙ ap (λ b. not b && is_ahead v n) (is_ahead-neg_right v d m nd)) i))
+        ∙ sym (λ i. one_if (is_rise-ahead v p d m np i) + one_if ((is_rise-ahead v (neg_vector R d) n m (neg_vector-ne-zero nd) ∙ ap (λ b. not b && is_ahead v n) (is_ahead-neg_right v d m nd)) i))
 
     -- ---- one corner from two directions
 
@@ -274,5 +274,5 @@ module _ {A : Type 0} {R : Operations A} {IsPositive : A → Type 0} (L : IsOrde
         let nx = first_ray-ne-zero xy in
         let ny = half_planes.half_plane-ne-zero L xy in
         ap (λ b. one_if (is_ahead v y) + one_if b) (is_rise-ahead (neg_vector R v) x y (neg_vector-ne-zero m) nx ∙ (λ i. not (is_ahead-neg_left v x m nx i) && is_ahead-neg_left v y m ny i))
-            ∙ opposite_table (is_ahead v x) (is_ahead v y)
-            ∙ sym (ap (λ b. one_if (is_ahead v x) + one_if b) (is_rise-ahead v x y m nx))
+        ∙ opposite_table (is_ahead v x) (is_ahead v y)
+        ∙ sym (ap (λ b. one_if (is_ahead v x) + one_if b) (is_rise-ahead v x y m nx))

@@ -1,12 +1,11 @@
 -- How often a boundary without right bends passes a direction: as often as any other. A library for crates to come.
-use Rattle.std.proofs.Common.{◌≡◌, ◌≢◌, ◌⊎◌, ℕ, zero, suc, ◌+◌, ◌-◌, ◌<◌, ◌≤◌, Bool, true, false, not, ◌&&◌, [], ◌∷◌, refl, sym, ap, ◌∙◌, subst, inl, inr, arith, add-zero, add-suc, zero-add}
+use Rattle.std.proofs.Common.{◌≡◌, ◌≢◌, ◌⊎◌, ℕ, zero, suc, ◌+◌, ◌-◌, ◌<◌, ◌≤◌, Bool, true, false, not, ◌&&◌, [], ◌∷◌, refl, sym, ap, ◌∙◌, inl, inr, arith, zero-add}
 use Rattle.std.proofs.lemmas.Bool.{cases_Bool}
 use Rattle.fs_ring.specs.Operations.{Operations}
-use Rattle.fs_ring.specs.OrderedRing.{IsOrderedRing, IsNonNegative}
-use Rattle.fs_ring.specs.Vector.{Vector, zero_vector, neg_vector, sub_vector, cross, dot}
+use Rattle.fs_ring.specs.OrderedRing.{IsOrderedRing}
+use Rattle.fs_ring.specs.Vector.{Vector, zero_vector, neg_vector, cross, dot}
 use Rattle.fs_ring.specs.Direction.{IsAlong, InHalfPlane, at_start, inside, left, right, along, opposite}
 use Rattle.fs_ring.proofs.Signs as signs
-use Rattle.fs_ring.proofs.Plane as plane
 use Rattle.fs_ring.proofs.Directions as directions
 use Rattle.fs_ring.proofs.HalfPlanes as half_planes
 use Rattle.fs_ring.proofs.Solver.{expressions as E, numeral, ◌≐◌, ◌from◌}
@@ -15,7 +14,7 @@ use Rattle.fs_lists.proofs.Counts.{one_if}
 use Rattle.fs_convex.specs.Counts.{count_below}
 use Rattle.fs_convex.specs.Turning.{DecidesHalfPlanes, HasConvexCorners, is_rise, rises, IsRiseAt}
 use Rattle.fs_convex.specs.Polygon.{HasSides}
-use Rattle.fs_convex.proofs.Counts.{count_below-agree, count_below_at_most, one_passes, some_passes, change_between}
+use Rattle.fs_convex.proofs.Counts.{count_below-agree, count_below_at_most, one_passes, change_between}
 use Rattle.fs_convex.proofs.Positions.{HoldsFrom, cross_to_same, dot_to_same, all_parallel, further_along}
 use Rattle.fs_convex.proofs.Rises as at_corner
 
@@ -103,9 +102,9 @@ module _ {A : Type 0} {R : Operations A} {IsPositive : A → Type 0} (L : IsOrde
           | right p ↦ rises_left n e p
           | along h ↦ rises_along n h
           | opposite z p ↦ sym (rises_of_opposite n e mu) ∙ rises_along n (record {
-              parallel = plane_derived L.ring [] (u ∷ v ∷ []) (λ u v. cross E (neg_vector E u) v ≐ numeral 0 from (E.neg (numeral 1), cross E u v ≐ numeral 0) ∷ []) refl (z, tt);
-              same_way = directions.positive_by_plane L [] (u ∷ v ∷ []) (λ u v. dot E (neg_vector E u) v ≐ E.neg (dot E u v)) refl p;
-            })
+            parallel = plane_derived L.ring [] (u ∷ v ∷ []) (λ u v. cross E (neg_vector E u) v ≐ numeral 0 from (E.neg (numeral 1), cross E u v ≐ numeral 0) ∷ []) refl (z, tt);
+            same_way = directions.positive_by_plane L [] (u ∷ v ∷ []) (λ u v. dot E (neg_vector E u) v ≐ E.neg (dot E u v)) refl p;
+          })
         ]
 
     -- ---- where the rises are

@@ -1,8 +1,8 @@
 -- Lengths along one direction, and chords across a line. A library for crates to come.
-use Rattle.std.proofs.Common.{◌≡◌, [], ◌∷◌, refl, sym, ap, ◌∙◌, inl, inr}
+use Rattle.std.proofs.Common.{◌≡◌, [], ◌∷◌, refl, ap, inl, inr}
 use Rattle.fs_ring.specs.Operations.{Operations, sub}
 use Rattle.fs_ring.specs.OrderedRing.{IsOrderedRing, positive, null, negative, IsLess, IsAtMost, IsNonNegative}
-use Rattle.fs_ring.specs.Vector.{Vector, zero_vector, add_vector, sub_vector, scale, cross, dot, norm}
+use Rattle.fs_ring.specs.Vector.{Vector, add_vector, sub_vector, scale, cross, dot, norm}
 use Rattle.fs_ring.specs.Direction.{IsAlong}
 use Rattle.fs_ring.proofs.RingLaws as ring
 use Rattle.fs_ring.proofs.Signs as signs
