@@ -11,7 +11,7 @@ use Rattle.fs_convex.proofs.Counts.{count_below-agree, count_below-shift}
 use Rattle.fs_convex.proofs.Winding as winding
 
 module _ {A : Type 0} (R : Operations A) where
-  -- the positions that are computed from the sides have them between them
+  -- the sides lead from each position to the next, where the positions are computed from them
   pub position_sides : (p : Vector A) (s : ℕ → Vector A) → HasSides R (position R p s) s
   position_sides p s j = refl
 
@@ -44,13 +44,13 @@ module _ {A : Type 0} {R : Operations A} {IsPositive : A → Type 0} (L : IsOrde
     pub sides_return : s n ≡ s 0
     sides_return = ap s (sym (add-zero n)) ∙ p.repeats 0
 
-    -- the positions repeat too
+    -- the positions come again after n
     pub positions_repeat : (j : ℕ) → q (n + j) ≡ q j
     positions_repeat zero = ap q (add-zero n) ∙ p.closed
     positions_repeat (suc j) =
         ap q (add-suc n j) ∙ p.sides (n + j) ∙ (λ i. add_vector R (positions_repeat j i) (p.repeats j i)) ∙ sym (p.sides j)
 
-    -- and so after any number of rounds
+    -- the positions come again after any multiple of n
     pub positions_repeat_often : (t j : ℕ) → q (t * n + j) ≡ q j
     positions_repeat_often zero j = ap q (let e = zero-mul n in let z : 0 * n + j ≡ j = omega (arith, zero-add j) in z)
     positions_repeat_often (suc t) j =
@@ -60,7 +60,7 @@ module _ {A : Type 0} {R : Operations A} {IsPositive : A → Type 0} (L : IsOrde
     pub position_below : (k : ℕ) → (m : ℕ) × (m < n) × (q k ≡ q m)
     position_below k = (k % n, mod-lt k some_side, ap q (sym (div-add-mod' k n)) ∙ positions_repeat_often (k / n) (k % n))
 
-    -- and comes again after corner j
+    -- each position is that of some corner from corner j on
     pub position_after : (j k : ℕ) → (m : ℕ) × (q (j + m) ≡ q k)
     position_after j k = go n refl
       where
@@ -71,11 +71,11 @@ module _ {A : Type 0} {R : Operations A} {IsPositive : A → Type 0} (L : IsOrde
             let sum : j + (j * m + k) ≡ j * n + k = omega arith in
             (j * m + k, ap q sum ∙ positions_repeat_often j k)
 
-    -- each direction is passed once
+    -- seen from any direction the turning number is the same
     pub turning_number_of_any : {v : Vector A} → v ≢ zero_vector R → rises R is_ahead v s n ≡ 1
     turning_number_of_any {v} m = winding.rises_of_any L test p.convex v (unit_vector R) n sides_return m unit-ne-zero ∙ p.turning_number
 
-    -- by one corner
+    -- two rises of a direction are one corner
     pub one_rise : {v : Vector A} → v ≢ zero_vector R → (i j : ℕ) → i < n → j < n → IsRiseAt R is_ahead v s i → IsRiseAt R is_ahead v s j → i ≡ j
     one_rise {v} m i j li lj = winding.one_rise L test p.convex v i j n (turning_number_of_any m) li lj
 

@@ -75,7 +75,7 @@ module _ {A : Type 0} {R : Operations A} {IsPositive : A → Type 0} (L : IsOrde
         one_of_two true = refl
         one_of_two false = refl
 
-    -- where the boundary passes a direction once and both halves are closed, so do they
+    -- each half of a boundary that passes a direction once passes it once, where both halves close
     pub one_rise_of_halves : {v : Vector A} {f g : ℕ → Vector A} → v ≢ zero_vector R → (k m : ℕ) → 0 < k → 0 < m → IsCutInTwo R s a b k m
         → rises R is_ahead v s (k + m) ≡ 1 → HasSides R f a → f (suc k) ≡ f 0 → HasSides R g b → g (suc m) ≡ g 0
         → (rises R is_ahead v a (suc k) ≡ 1) × (rises R is_ahead v b (suc m) ≡ 1)
@@ -146,7 +146,7 @@ module _ {A : Type 0} {R : Operations A} {IsPositive : A → Type 0} (L : IsOrde
       let there : r + (i - r) ≡ i = omega arith in
       half_planes.half_plane_non_negative L (subst (λ (m : ℕ). HalfPlane v (s m)) there (c.ahead (i - r) (omega arith))))
 
-  -- along the second none is further left
+  -- along the second chain no corner is further left of v than an earlier one
   pub second_chain_never_left : {v : Vector A} {s q : ℕ → Vector A} {n r h : ℕ} → HasSides R q s → IsTwoChains R IsPositive v s n r h → (j k : ℕ) → h ≤ j → j + k ≤ n
       → IsNonNegative R IsPositive (cross R (neg_vector R v) (sub_vector R (q (r + j + k)) (q (r + j))))
   second_chain_never_left {v} {s} {q} {n} {r} {h} sides c j k l m =

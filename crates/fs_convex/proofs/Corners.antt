@@ -37,7 +37,7 @@ module _ {A : Type 0} {R : Operations A} {IsPositive : A → Type 0} (L : IsOrde
   along_of_parallel {u} {x} e (inside p) k =
       absurd (signs.positive-ne-zero L (directions.along_cross_right L x (directions.along_comm L k) p) (directions.parallel_comm L u x e))
 
-  -- from a to b where b is left of the line, as from b to a seen from the other side
+  -- what points left of -v from b to a points left of v from a to b
   turned : (u a b : Vector A) → cross R (neg_vector R u) (sub_vector R a b) ≡ cross R u (sub_vector R b a)
   turned u a b = plane_identity L.ring [] (u ∷ a ∷ b ∷ []) (λ u a b. cross E (neg_vector E u) (sub_vector E a b) ≐ cross E u (sub_vector E b a)) refl
 
@@ -127,7 +127,7 @@ module _ {A : Type 0} {R : Operations A} {IsPositive : A → Type 0} (L : IsOrde
 
       -- ---- a corner against side 0
 
-      -- a corner other than the side's two ends is off the side
+      -- a corner other than the ends of side 0 is off the side
       pub corner_off_side : (k : ℕ) → 2 ≤ k → k < n → IsOffSide R IsPositive u (q 0) (q 1) (q k)
       corner_off_side k l m = elim (corner_from_side k (omega arith)) [
         | to_left r ↦ left_of_side r
@@ -144,13 +144,13 @@ module _ {A : Type 0} {R : Operations A} {IsPositive : A → Type 0} (L : IsOrde
             (subst (λ w. IsPositive (dot R u (sub_vector R w (q k)))) end (further_along L p.sides u k (n - k) (λ j a b. (h j a (omega arith)).same_way) (omega arith)))
       ]
 
-      -- where it is on the side's line, the sides on one way to it are along the side
+      -- where a corner is on the line of side 0, the sides on one way to it are all along side 0
       pub sides_to_corner_on_line : (k : ℕ) → k ≤ n → cross R u (sub_vector R (q k) (q 0)) ≡ R.zero
           → ((j : ℕ) → j < k → Along u (s j)) ⊎ ((j : ℕ) → k ≤ j → j < n → Along u (s j))
       sides_to_corner_on_line k l e =
           elim (corner_from_side k l) [ to_left r ↦ absurd (signs.positive-ne-zero L r e) | sides_before h ↦ inl h | sides_after h ↦ inr h ]
 
-      -- where all corners are strictly convex, it is left of the side
+      -- where all corners are strictly convex, each corner other than the ends of side 0 is left of the side
       pub corner_left_of_side : ((j : ℕ) → IsPositive (cross R (s j) (s (suc j)))) → (k : ℕ) → 2 ≤ k → k < n → IsPositive (cross R u (sub_vector R (q k) (q 0)))
       corner_left_of_side strict k l m = elim (corner_from_side k (omega arith)) [
         | to_left r ↦ r
@@ -203,7 +203,21 @@ module _ {A : Type 0} {R : Operations A} {IsPositive : A → Type 0} (L : IsOrde
     -- ---- a corner against any side
 
     module _ {n : ℕ} {s q : ℕ → Vector A} (p : Polygon n s q) where
-      -- no corner is right of a side
+      -- a corner other than the ends of side j is off the side
+      pub corner_off_any_side : (j k : ℕ) → 2 ≤ k → k < n → IsOffSide R IsPositive (s j) (q j) (q (suc j)) (q (j + k))
+      corner_off_any_side j k l m =
+          subst (λ w. IsOffSide R IsPositive (s j) (q j) w (q (j + k))) (ap q (let z : j + 1 ≡ suc j = omega arith in z))
+          (subst (λ (i : ℕ). IsOffSide R IsPositive (s i) (q i) (q (j + 1)) (q (j + k))) (add-zero j)
+          (corner_off_side (boundary.polygon_from L test j p) k l m))
+
+      -- where all corners are strictly convex, each corner other than the ends of side j is left of the side
+      pub corner_left_of_any_side : ((j : ℕ) → IsPositive (cross R (s j) (s (suc j)))) → (j k : ℕ) → 2 ≤ k → k < n → IsPositive (cross R (s j) (sub_vector R (q (j + k)) (q j)))
+      corner_left_of_any_side strict j k l m =
+          subst (λ (i : ℕ). IsPositive (cross R (s i) (sub_vector R (q (j + k)) (q i)))) (add-zero j)
+          (corner_left_of_side (boundary.polygon_from L test j p)
+          (λ i. subst (λ (h : ℕ). IsPositive (cross R (s (j + i)) (s h))) (let z : suc (j + i) ≡ j + suc i = omega arith in z) (strict (j + i))) k l m)
+
+      -- no corner is right of any side
       pub corner_not_right : (j k : ℕ) → IsNonNegative R IsPositive (cross R (s j) (sub_vector R (q k) (q j)))
       corner_not_right j k =
           let there = boundary.position_after L test p j k in
@@ -213,7 +227,7 @@ module _ {A : Type 0} {R : Operations A} {IsPositive : A → Type 0} (L : IsOrde
           (λ i. cross R (s (add-zero j i)) (sub_vector R ((sym small.2 ∙ there.1) i) (q (add-zero j i))))
           (corner_not_right_of_first from_j small.0 (omega (arith, small.1)))
 
-      -- the corners differ
+      -- no two corners have one position
       pub positions_differ : (j k : ℕ) → j < k → k < n → q j ≢ q k
       positions_differ j k l m e =
           let there : j + (k - j) ≡ k = omega arith in

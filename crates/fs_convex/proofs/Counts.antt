@@ -20,7 +20,7 @@ count_below-add f a (suc k) =
     let next : count_below f (a + suc k) ≡ count_below f (a + k) + one_if (f (a + k)) = ap (count_below f) (add-suc a k) in
     omega arith
 
--- no matter where n numbers begin, where the test repeats after n
+-- the count of n numbers is the same wherever they begin, where the test repeats after n
 pub count_below-shift : (f : ℕ → Bool) (n a : ℕ) → ((j : ℕ) → f (n + j) ≡ f j) → count_below (λ j. f (a + j)) n ≡ count_below f n
 count_below-shift f n a h =
     let e = count_below-add f n a in
@@ -29,7 +29,7 @@ count_below-shift f n a h =
     let period = count_below-agree (λ j. f (n + j)) f a (λ j l. h j) in
     omega arith
 
--- more numbers, no fewer that pass
+-- of more numbers no fewer pass
 pub count_below_at_most : (f : ℕ → Bool) (a k : ℕ) → a ≤ k → count_below f a ≤ count_below f k
 count_below_at_most f a zero h = let e : a ≡ 0 = omega arith in let d : count_below f a ≡ count_below f 0 = ap (count_below f) e in omega arith
 count_below_at_most f a (suc k) h = go (split a k h) (λ l. count_below_at_most f a k l)

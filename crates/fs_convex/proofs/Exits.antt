@@ -23,7 +23,7 @@ use Rattle.fs_convex.proofs.Corners as corners
 module _ {A : Type 0} {R : Operations A} {IsPositive : A → Type 0} (L : IsOrderedRing R IsPositive) where
   -- ---- points left of a vector that v is left of
 
-  -- a point of the line along v is ahead
+  -- what is left of b and on the line of v is ahead of (0, 0) along v, where v is left of b
   pub ahead_on_line : {b v x : Vector A} → IsPositive (cross R b v) → IsPositive (cross R b x) → cross R v x ≡ R.zero → IsPositive (dot R v x)
   ahead_on_line {b} {v} {x} bv bx e =
       signs.positive_of_mul_left L bv
@@ -31,7 +31,7 @@ module _ {A : Type 0} {R : Operations A} {IsPositive : A → Type 0} (L : IsOrde
       (plane_derived L.ring [] (b ∷ v ∷ x ∷ []) (λ b v x. cross E b v ⊗ dot E v x ≐ norm E v ⊗ cross E b x from (E.neg (dot E b v), cross E v x ≐ numeral 0) ∷ []) refl (e, tt))
       (L.mul_positive (directions.norm_positive L v (directions.cross_positive-ne-zero_right L bv)) bx))
 
-  -- a point to the right of v and one to its left have the line ahead between them
+  -- from a point right of v to a point left of v the line of v is crossed ahead of (0, 0), where both points and v are left of b
   pub ahead_across : {b v x y : Vector A} → IsPositive (cross R b v) → IsPositive (cross R b x) → IsPositive (cross R b y)
       → IsPositive (cross R x v) → IsPositive (cross R v y) → IsPositive (cross R x y)
   ahead_across {b} {v} {x} {y} bv bx by xv vy =
@@ -108,7 +108,7 @@ module _ {A : Type 0} {R : Operations A} {IsPositive : A → Type 0} (L : IsOrde
     three : (k : ℕ) → (k ≤ i) ⊎ ((k ≡ suc i) ⊎ (suc (suc i) ≤ k))
     three k = grind arith
 
-    -- a corner that is right of the line comes before the exit
+    -- a corner that is right of the line is no later than the start of the exit side
     pub right_before_exit : (k : ℕ) → k ≤ m → IsPositive (cross R (q k) v) → k ≤ i
     right_before_exit k l h = elim (three k) [
       | inl a ↦ a
@@ -119,7 +119,7 @@ module _ {A : Type 0} {R : Operations A} {IsPositive : A → Type 0} (L : IsOrde
           ]
     ]
 
-    -- a side from right to left is the exit
+    -- a side from the right of the line to its left is the exit side
     pub crossed_side_is_exit : (k : ℕ) → 1 ≤ k → k < m → IsPositive (cross R (q k) v) → IsPositive (cross R v (q (suc k))) → k ≡ i
     crossed_side_is_exit k l h right left = elim (before_or_exit k (right_before_exit k (omega arith) right)) [
       | inl same ↦ same
@@ -129,14 +129,14 @@ module _ {A : Type 0} {R : Operations A} {IsPositive : A → Type 0} (L : IsOrde
         before_or_exit : (k : ℕ) → k ≤ i → (k ≡ i) ⊎ (suc k ≤ i)
         before_or_exit k l = grind arith
 
-    -- a corner on the line is the end of the exit
+    -- a corner on the line is the end of the exit side
     pub corner_on_line_is_exit : (k : ℕ) → 1 ≤ k → k ≤ m → cross R v (q k) ≡ R.zero → k ≡ suc i
     corner_on_line_is_exit k l h z = elim (three k) [
       | inl a ↦ absurd (signs.positive-ne-zero L (e.right_before k l a) (directions.parallel_comm L v (q k) z))
       | inr s ↦ elim s [ inl same ↦ same | inr a ↦ absurd (signs.positive-ne-zero L (e.left_after k a h) z) ]
     ]
 
-    -- it isn't corner m, where that is left of the line
+    -- the end of the exit side isn't corner m, where that is left of the line and the end on it
     pub exit_on_line_before_last : IsPositive (cross R v (q m)) → cross R v (q (suc i)) ≡ R.zero → suc i < m
     exit_on_line_before_last left z = elim (before_or_last (suc i) m e.before_last) [
       | inl l ↦ l
@@ -199,7 +199,7 @@ module _ {A : Type 0} {R : Operations A} {IsPositive : A → Type 0} (L : IsOrde
           | inr some ↦ left_where_not j (suc i + some.0) (omega arith) (omega (arith, some.1)) b some.2
         ]
 
-      -- where side 0 points right of v, corner 1 is right of the line and corner m left of it, the corners between come to the left once
+      -- where side 0 points right of v, corner 1 is right of the line and corner m left of it, there is one exit between
       pub exit : (v : Vector A) (m : ℕ) → 2 ≤ m → m ≤ n → IsPositive (cross R (s 0) v) → IsPositive (cross R (q 1) v) → IsPositive (cross R v (q m))
           → (i : ℕ) × IsExit R IsPositive v q i m
       exit v m two most down right left = elim (last_before_failure (λ j. IsPositive (cross R (q j) v)) (λ j. right_or_not v (q j)) 1 (m - 1) right) [
@@ -233,25 +233,23 @@ module _ {A : Type 0} {R : Operations A} {IsPositive : A → Type 0} (L : IsOrde
         inner : (k : ℕ) → IsPositive (cross R (s 0) (q k))
         inner k = (from_entry (q k) (p.sides 0)).1 (corners.corner_not_right L test p 0 k)
 
-        -- a corner on the line is ahead
+        -- a corner on the line is ahead, where the line came in by side 0
         pub corner_ahead_of_entry : (k : ℕ) → cross R v (q k) ≡ R.zero → IsPositive (dot R v (q k))
         corner_ahead_of_entry k e = ahead_on_line entry_turn (inner k) e
 
-        -- a side from right to left is crossed ahead
+        -- and from a corner right of the line to one left of it the line is crossed ahead
         pub side_ahead_of_entry : (j k : ℕ) → IsPositive (cross R (q j) v) → IsPositive (cross R v (q k)) → IsPositive (cross R (q j) (q k))
         side_ahead_of_entry j k h l = ahead_across entry_turn (inner j) (inner k) h l
 
       -- ---- the line leaves ahead, where it begins at corner 0
 
       module _ {v : Vector A} (start : q 0 ≡ zero_vector R) {i m : ℕ} (e : IsExit R IsPositive v q i m) (most : m < n) where
-        -- the side by which the boundary leaves the right side is crossed ahead
+        -- the exit side is crossed ahead, where the line begins at corner 0
         pub side_ahead_of_start : IsPositive (cross R (q i) (q (suc i)))
         side_ahead_of_start =
             ahead_of_zero (p.sides i) not_start
             (subst (λ w. IsOffSide R IsPositive (s i) (q i) (q (suc i)) w) (ap q to_n ∙ p.closed ∙ start)
-            (subst (λ w. IsOffSide R IsPositive (s i) (q i) w (q (i + (n - i)))) (ap q (let z : i + 1 ≡ suc i = omega arith in z))
-            (subst (λ (j : ℕ). IsOffSide R IsPositive (s j) (q j) (q (i + 1)) (q (i + (n - i)))) (add-zero i)
-            (corners.corner_off_side L test (boundary.polygon_from L test i p) (n - i) (omega (arith, e.before_last)) (omega (arith, e.before_last, e.not_first))))))
+            (corners.corner_off_any_side L test p i (n - i) (omega (arith, e.before_last)) (omega (arith, e.before_last, e.not_first))))
             (e.right_before i e.not_first (omega arith)) e.not_right
           where
             to_n : i + (n - i) ≡ n
@@ -260,13 +258,13 @@ module _ {A : Type 0} {R : Operations A} {IsPositive : A → Type 0} (L : IsOrde
             not_start : q (suc i) ≢ zero_vector R
             not_start z = corners.positions_differ L test p 0 (suc i) (omega arith) (omega (arith, e.before_last)) (start ∙ sym z)
 
-        -- a corner at which it leaves is ahead
+        -- and its end is ahead, where that is on the line
         pub corner_ahead_of_start : cross R v (q (suc i)) ≡ R.zero → IsPositive (dot R v (q (suc i)))
         corner_ahead_of_start z = ahead_on_line (e.right_before i e.not_first (omega arith)) side_ahead_of_start z
 
       -- ---- the line runs along side 0
 
-      -- a corner ahead on the line of side 0 is the side's end, or beyond it
+      -- a corner ahead on the line is the end of side 0 or beyond it, where the line runs along side 0
       pub corner_ahead_on_side : {v : Vector A} → q 0 ≡ zero_vector R → IsAlong R IsPositive (s 0) v → (k : ℕ) → k < n → cross R v (q k) ≡ R.zero
           → IsPositive (dot R v (q k)) → (k ≡ 1) ⊎ IsPositive (dot R (s 0) (sub_vector R (q k) (q 1)))
       corner_ahead_on_side {v} start h k l e ahead = go (three k)

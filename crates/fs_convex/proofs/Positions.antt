@@ -12,15 +12,15 @@ use Rattle.fs_convex.specs.Polygon.{HasSides}
 abbrev pub HoldsFrom : (ℕ → Type 0) → ℕ → ℕ → Type 0
 HoldsFrom P a k = (j : ℕ) → a ≤ j → j < a + k → P j
 
--- then it holds of one number less
+-- what holds of k + 1 numbers from a on holds of the first k
 pub from_fewer : (P : ℕ → Type 0) (a k : ℕ) → HoldsFrom P a (suc k) → HoldsFrom P a k
 from_fewer P a k h j l m = h j l (omega arith)
 
--- and of the last number
+-- what holds of k + 1 numbers from a on holds of the last
 pub from_last : (P : ℕ → Type 0) (a k : ℕ) → HoldsFrom P a (suc k) → P (a + k)
 from_last P a k h = h (a + k) (omega arith) (omega arith)
 
--- and the other way round
+-- what holds of k numbers from a on, and of the next, holds of k + 1
 pub from_more : (P : ℕ → Type 0) (a k : ℕ) → HoldsFrom P a k → P (a + k) → HoldsFrom P a (suc k)
 from_more P a k h last j l m = go (split j (a + k) (omega arith))
   where
@@ -35,12 +35,12 @@ module _ {A : Type 0} {R : Operations A} {IsPositive : A → Type 0} (L : IsOrde
   open R use {add as ◌⊞◌, zero as 𝟘}
 
   infixl 60 ◌⊞◌
-  -- from a point to itself: no part left of v
+  -- the way from a point to itself has no part left of v
   pub cross_to_same : {a b : Vector A} (v : Vector A) → a ≡ b → cross R v (sub_vector R a b) ≡ 𝟘
   cross_to_same {a} {b} v e =
       ap (λ w. cross R v (sub_vector R w b)) e ∙ plane_identity L.ring [] (v ∷ b ∷ []) (λ v b. cross E v (sub_vector E b b) ≐ numeral 0) refl
 
-  -- and none along v
+  -- and no part along v
   pub dot_to_same : {a b : Vector A} (v : Vector A) → a ≡ b → dot R v (sub_vector R a b) ≡ 𝟘
   dot_to_same {a} {b} v e =
       ap (λ w. dot R v (sub_vector R w b)) e ∙ plane_identity L.ring [] (v ∷ b ∷ []) (λ v b. dot E v (sub_vector E b b) ≐ numeral 0) refl
@@ -86,7 +86,7 @@ module _ {A : Type 0} {R : Operations A} {IsPositive : A → Type 0} (L : IsOrde
     further_left v a k i h l m p =
         elim (signs.non_negative_cases L _ (never_right v a k h)) [ inl r ↦ r | inr e ↦ absurd (signs.positive-ne-zero L p (all_parallel v a k h e i l m)) ]
 
-    -- sides that are parallel to v lead along the line
+    -- sides that are parallel to v lead along its line
     pub stays_parallel : (v : Vector A) (a k : ℕ) → HoldsFrom (λ j. cross R v (s j) ≡ 𝟘) a k → cross R v (sub_vector R (q (a + k)) (q a)) ≡ 𝟘
     stays_parallel v a zero h = cross_none v a
     stays_parallel v a (suc k) h =

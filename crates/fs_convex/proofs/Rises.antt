@@ -131,7 +131,7 @@ module _ {A : Type 0} {R : Operations A} {IsPositive : A → Type 0} (L : IsOrde
   pub half_plane_of_neg-neg : {v x : Vector A} → HalfPlane (neg_vector R (neg_vector R v)) x → HalfPlane v x
   half_plane_of_neg-neg {v} {x} = subst (λ w. HalfPlane w x) (plane.neg_vector-neg L.ring v)
 
-  -- and the vector is the opposite of its opposite
+  -- the vector is the opposite of its opposite
   pub half_plane_neg-neg : {v x : Vector A} → HalfPlane v x → HalfPlane (neg_vector R (neg_vector R v)) x
   half_plane_neg-neg {v} {x} = subst (λ w. HalfPlane w x) (sym (plane.neg_vector-neg L.ring v))
 
@@ -150,7 +150,7 @@ module _ {A : Type 0} {R : Operations A} {IsPositive : A → Type 0} (L : IsOrde
       directions.positive_by_plane L [] (y ∷ z ∷ []) (λ y z. cross E z (neg_vector E y) ≐ cross E y z) refl (left_of_turn_out hy (half_plane_neg-neg hz) yz) in
       turns.right_not_half_plane L (half_planes.half_plane_trans L hz opposite hx after before) xz
 
-  -- a cut d from the corner between p and n is in the sector between n and -p
+  -- a cut d of the corner between p and n isn't with p in a half plane that n isn't in
   no_cut_over : {v p d n : Vector A} → HalfPlane v p → HalfPlane v d → HalfPlane (neg_vector R v) n → IsPositive (cross R p d)
       → IsPositive (cross R (neg_vector R d) n) → HalfPlane p n → ⊥
   no_cut_over {v} {p} {d} {n} hp hd hn pd dn pn =
@@ -183,7 +183,7 @@ module _ {A : Type 0} {R : Operations A} {IsPositive : A → Type 0} (L : IsOrde
           | inr h ↦ test.complete (neg_vector R v) x h ∙ sym (ap not (not_ahead_of_half_plane h))
         ]
 
-    -- so is the test of the opposite vector
+    -- the test of the opposite vector is the negation of that of the vector
     pub is_ahead-neg_right : (v x : Vector A) → v ≢ zero_vector R → x ≢ zero_vector R → is_ahead v (neg_vector R x) ≡ not (is_ahead v x)
     is_ahead-neg_right v x m n =
         elim (half_planes.half_plane_cases L v x m n) [
@@ -207,7 +207,7 @@ module _ {A : Type 0} {R : Operations A} {IsPositive : A → Type 0} (L : IsOrde
     pub is_rise-ahead : (v x y : Vector A) → v ≢ zero_vector R → x ≢ zero_vector R → rise v x y ≡ not (is_ahead v x) && is_ahead v y
     is_rise-ahead v x y m n = ap (λ b. b && is_ahead v y) (is_ahead-neg_left v x m n)
 
-    -- or where both the opposite of the side before and the side after are in it
+    -- a corner is a rise where the opposite of the side before and the side after are both in the half plane of v
     pub is_rise-opposite_side : (v x y : Vector A) → v ≢ zero_vector R → x ≢ zero_vector R → rise v x y ≡ is_ahead v (neg_vector R x) && is_ahead v y
     is_rise-opposite_side v x y m n = ap (λ b. b && is_ahead v y) (is_ahead-neg_left v x m n ∙ sym (is_ahead-neg_right v x m n))
 
@@ -245,7 +245,7 @@ module _ {A : Type 0} {R : Operations A} {IsPositive : A → Type 0} (L : IsOrde
 
     -- ---- one corner from two directions
 
-    -- 1 where x is in the sector from v to w
+    -- 1 where x is in the half plane of v and not in that of w, so in the sector from v to w
     abbrev pub in_sector : Vector A → Vector A → Vector A → ℕ
     in_sector v w x = one_if (is_ahead v x && not (is_ahead w x))
 

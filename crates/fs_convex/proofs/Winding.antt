@@ -109,15 +109,15 @@ module _ {A : Type 0} {R : Operations A} {IsPositive : A → Type 0} (L : IsOrde
 
     -- ---- where the rises are
 
-    -- a rise by the half planes of its two sides
+    -- a corner is a rise where its two sides are in the half planes of -v and of v
     pub rise_of_half_planes : (v : Vector A) (j : ℕ) → HalfPlane (neg_vector R v) (s j) → HalfPlane v (s (suc j)) → IsRiseAt R is_ahead v s j
     rise_of_half_planes v j h k = λ i. test.complete (neg_vector R v) (s j) h i && test.complete v (s (suc j)) k i
 
-    -- or by the test: it isn't true of the first side, and is true of the second
+    -- a corner is a rise where the test isn't true of the side before and is true of the side after
     pub rise_of_change : {v : Vector A} → v ≢ zero_vector R → (j : ℕ) → is_ahead v (s j) ≡ false → is_ahead v (s (suc j)) ≡ true → IsRiseAt R is_ahead v s j
     rise_of_change {v} m j e f = at_corner.is_rise-ahead L test v (s j) (s (suc j)) m (side-ne-zero j) ∙ not_and e f
 
-    -- which each rise says
+    -- and only there
     pub change_of_rise : {v : Vector A} → v ≢ zero_vector R → (j : ℕ) → IsRiseAt R is_ahead v s j → (is_ahead v (s j) ≡ false) × (is_ahead v (s (suc j)) ≡ true)
     change_of_rise {v} m j e = not_and_true _ _ (sym (at_corner.is_rise-ahead L test v (s j) (s (suc j)) m (side-ne-zero j)) ∙ e)
 
@@ -128,7 +128,7 @@ module _ {A : Type 0} {R : Operations A} {IsPositive : A → Type 0} (L : IsOrde
         let c = change_between (λ j. is_ahead v (s j)) a k e f in
         (c.0, c.1, c.2, rise_of_change m c.0 c.3 c.4)
 
-    -- of a boundary that passes v once two rises are one
+    -- two rises are one corner, where a boundary passes v once
     pub one_rise : (v : Vector A) (i j n : ℕ) → count v s n ≡ 1 → i < n → j < n → IsRiseAt R is_ahead v s i → IsRiseAt R is_ahead v s j → i ≡ j
     one_rise v i j n once li lj ei ej = one_passes _ i j n once li lj ei ej
 
