@@ -4,14 +4,15 @@ use Rattle.std.proofs.lemmas.Bool.{cases_Bool}
 use Rattle.fs_ring.specs.Operations.{Operations}
 use Rattle.fs_ring.specs.OrderedRing.{IsOrderedRing, IsNonNegative}
 use Rattle.fs_ring.specs.Vector.{Vector, zero_vector, neg_vector, sub_vector, cross}
-use Rattle.fs_ring.specs.Direction.{InHalfPlane}
+use Rattle.fs_ring.specs.Direction.{IsAlong, InHalfPlane}
 use Rattle.fs_ring.proofs.Plane as plane
 use Rattle.fs_ring.proofs.HalfPlanes as half_planes
+use Rattle.fs_ring.proofs.Turns as turns
 use Rattle.fs_lists.proofs.Counts.{one_if}
 use Rattle.fs_convex.specs.Counts.{count_below}
 use Rattle.fs_convex.specs.Turning.{DecidesHalfPlanes, HasConvexCorners, is_rise, rises, IsCutInTwo, IsTwoChains}
 use Rattle.fs_convex.specs.Polygon.{HasSides}
-use Rattle.fs_convex.proofs.Counts.{count_below-agree, count_below-add, some_passes, last_before_failure}
+use Rattle.fs_convex.proofs.Counts.{count_below-agree, count_below-add, some_passes, backwards, last_before_failure}
 use Rattle.fs_convex.proofs.Positions.{never_right}
 use Rattle.fs_convex.proofs.Rises as at_corner
 use Rattle.fs_convex.proofs.Winding as winding
@@ -154,3 +155,42 @@ module _ {A : Type 0} {R : Operations A} {IsPositive : A → Type 0} (L : IsOrde
       (λ i a b.
       let there : r + (i - r) ≡ i = omega arith in
       half_planes.half_plane_non_negative L (subst (λ (m : ℕ). HalfPlane (neg_vector R v) (s m)) there (c.back (i - r) (omega arith) (omega arith))))
+
+  -- ---- the order of the sides in a chain
+
+  module _ {v : Vector A} {s : ℕ → Vector A} {n r h : ℕ} (convex : HasConvexCorners R IsPositive s) (c : IsTwoChains R IsPositive v s n r h) where
+    -- the sides of the first chain that are along v are its first ones
+    pub first_chain_along : (i j : ℕ) → i ≤ j → j < h → IsAlong R IsPositive v (s (r + j)) → IsAlong R IsPositive v (s (r + i))
+    first_chain_along i j l m a =
+        let there : r + i + (j - i) ≡ r + j = omega arith in
+        backwards (λ k. IsAlong R IsPositive v (s k)) (r + i) (j - i)
+        (λ k b d e.
+        let at : r + (k - r) ≡ k = omega arith in
+        turns.along_before_turn L e (convex k) (subst (λ (m : ℕ). HalfPlane v (s m)) at (c.ahead (k - r) (omega arith))))
+        (subst (λ (k : ℕ). IsAlong R IsPositive v (s k)) (sym there) a)
+
+    -- the last side of the first chain isn't one of them
+    pub first_chain_ends_left : IsPositive (cross R v (s (r + (h - 1))))
+    first_chain_ends_left =
+        let some = c.some_ahead in
+        let next : r + h ≡ suc (r + (h - 1)) = omega arith in
+        at_corner.left_before_turn_out L (c.ahead (h - 1) (omega arith)) (subst (λ (k : ℕ). HalfPlane (neg_vector R v) (s k)) next (c.back h (omega arith) c.some_back)) (convex (r + (h - 1)))
+
+    -- the sides of the second chain that are along -v are its first ones
+    pub second_chain_along : (i j : ℕ) → h ≤ i → i ≤ j → j < n → IsAlong R IsPositive (neg_vector R v) (s (r + j)) → IsAlong R IsPositive (neg_vector R v) (s (r + i))
+    second_chain_along i j f l m a =
+        let there : r + i + (j - i) ≡ r + j = omega arith in
+        backwards (λ k. IsAlong R IsPositive (neg_vector R v) (s k)) (r + i) (j - i)
+        (λ k b d e.
+        let at : r + (k - r) ≡ k = omega arith in
+        turns.along_before_turn L e (convex k) (subst (λ (m : ℕ). HalfPlane (neg_vector R v) (s m)) at (c.back (k - r) (omega arith) (omega arith))))
+        (subst (λ (k : ℕ). IsAlong R IsPositive (neg_vector R v) (s k)) (sym there) a)
+
+    -- the last side of the second chain isn't one of them
+    pub second_chain_ends_right : ((j : ℕ) → s (n + j) ≡ s j) → IsPositive (cross R (neg_vector R v) (s (r + (n - 1))))
+    second_chain_ends_right repeats =
+        let some = c.some_back in
+        let next : n + r ≡ suc (r + (n - 1)) = omega arith in
+        let first : s r ≡ s (suc (r + (n - 1))) = sym (repeats r) ∙ ap s next in
+        at_corner.left_before_turn_out L (c.back (n - 1) (omega arith) (omega arith))
+        (at_corner.half_plane_neg-neg L (subst (HalfPlane v) (ap s (add-zero r) ∙ first) (c.ahead 0 c.some_ahead))) (convex (r + (n - 1)))

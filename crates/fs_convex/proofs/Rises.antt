@@ -140,6 +140,12 @@ module _ {A : Type 0} {R : Operations A} {IsPositive : A → Type 0} (L : IsOrde
   left_of_turn_out hx hy (inside p) = p
   left_of_turn_out hx hy (at_start h) = absurd (half_planes.half_plane_one L (half_planes.half_plane_along L h hx) hy)
 
+  -- what turns out of a half plane is left of its first ray
+  pub left_before_turn_out : {v x y : Vector A} → HalfPlane v x → HalfPlane (neg_vector R v) y → HalfPlane x y → IsPositive (cross R v x)
+  left_before_turn_out (inside p) hy xy = p
+  left_before_turn_out {v} {x} {y} (at_start h) hy xy =
+      absurd (half_planes.half_plane_one L (inside (directions.along_cross L y (directions.along_comm L h) (left_of_turn_out (at_start h) hy xy))) hy)
+
   -- two turns out of a half plane and back into it are more than one turn
   no_turn_over : {v x y z : Vector A} → HalfPlane v x → HalfPlane (neg_vector R v) y → HalfPlane v z → HalfPlane x y → HalfPlane y z → HalfPlane x z → ⊥
   no_turn_over {v} {x} {y} {z} hx hy hz xy yz xz =
