@@ -8,5 +8,7 @@ pub mod PlaneSolver
 pub mod Plane
 pub mod Directions
 pub mod HalfPlanes
+pub mod Turns
+pub mod Chords
 pub mod Hinges
 pub mod Integers
