@@ -39,6 +39,15 @@ too_long_begins (Some bytes) (Some rest) taken held held' c many wrote =
     let long : most_bytes < length bytes = omega (arith, ap length c, length-append taken rest) in
     (wrote.0, λ output r answered. wrote.1 output r (only_long bytes long output r answered), wrote.2)
 
+-- bytes that are too many are refused only
+pub too_long_only : (old new : Option (List ℕ)) (taken : List ℕ) (result : Status) → Consumes old new taken → length taken ≡ most_bytes + 1 → result ≡ status.Refused
+    → IfSome old (λ bytes. (output : List ℕ) → (other : Status) → IsAnswered bytes output other → other ≡ result)
+too_long_only None new taken result c many is = tt
+too_long_only (Some bytes) None taken result c many is = absurd c
+too_long_only (Some bytes) (Some rest) taken result c many is =
+    let long : most_bytes < length bytes = omega (arith, ap length c, length-append taken rest) in
+    λ output other answered. (only_long bytes long output other answered).1 ∙ sym is
+
 -- what was read to the end is all that was left
 pub all_read : (old new : Option (List ℕ)) (items : List ℕ) → Consumes old new items → IsAtEnd new → (P : List ℕ → Type 0) → P items → IfSome old P
 all_read None new items c e P p = tt
@@ -54,6 +63,7 @@ module _ (result : Status) (held held' : Option (List ℕ)) (faults faults' : �
     whole = λ whole. let wrote = w.whole whole in (wrote.0, there wrote.0 result wrote.1, wrote.2);
     broken = λ broken. let wrote = w.broken broken in (wrote.0, λ output r means. wrote.1 output r (back output r means), wrote.2);
     write_fault = w.write_fault;
+    kept = w.kept;
     never_falls = w.never_falls;
   }
 
