@@ -78,7 +78,7 @@ pub fn flat<I: Source, O: Sink>(
         → Keeps (O.held out.old) (O.held out.new) × Rose (I.faults input.old) (I.faults input.new) }
     ensures write_fault { result ≡ Status.WriteFault → Rose (O.faults out.old) (O.faults out.new) }
 
-    // Neither failed, where the whole answer was given or memory ran out.
+    // No count rose where the whole answer was given, or where memory ran out.
     ensures kept { IsWhole result → (I.faults input.new ≡ I.faults input.old) × (O.faults out.new ≡ O.faults out.old) }
     ensures no_memory { result ≡ Status.NoMemory
         → (I.faults input.new ≡ I.faults input.old) × (O.faults out.new ≡ O.faults out.old) }
