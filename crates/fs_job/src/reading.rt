@@ -1,7 +1,7 @@
 // `read_job`: the job that bytes are, or their first fault.
 
 ghost use Rattle.fs_io.specs.Whole.{most_bytes};
-ghost use Rattle.std.specs.Prelude.{◌≡◌, ◌≢◌, ◌⊎◌, ◌≤◌, [], length, Ok, Err, IfOk, IfErr};
+ghost use Rattle.std.specs.Prelude.{◌≡◌, ◌≢◌, ◌⊎◌, ◌≤◌, [], false, length, Ok, Err, IfOk, IfErr};
 ghost use Rattle.fs_gluing.specs.declared.faults.Fault.{Fault};
 ghost use Rattle.fs_gluing.specs.Shape.{IsWithinLimits};
 ghost use Rattle.fs_job.specs.Pieces.{IsText, words_of};
@@ -58,6 +58,7 @@ fn read_lines(alloc: Global, bytes: &[u8]) -> Result<Job, JobStop>
     requires { length bytes.now ≤ most_bytes }
     ensures job { IfOk result (λ job. IsJob bytes.now (job_draft job)) }
     ensures limits { IfOk result (λ job. IsWithinLimits (form_shape job.form)) }
+    ensures unmarked { IfOk result (λ job. (form_shape job.form).straight ≡ false) }
     ensures fault { IfErr result (λ e. (e ≡ JobStop.NoMemory)
         ⊎ ((fault : Fault) × (e ≡ JobStop.Fault fault) × IsFirstFault bytes.now fault)) }
 {
@@ -92,6 +93,8 @@ pub fn read_job(alloc: Global, bytes: &[u8]) -> Result<Job, JobStop>
     ensures read { (draft : Draft) → IsJob bytes.now draft
         → ((job : Job) × (result ≡ Ok job) × (job_draft job ≡ draft)) ⊎ (result ≡ Err JobStop.NoMemory) }
     ensures limits { IfOk result (λ job. IsWithinLimits (form_shape job.form)) }
+    // No straight corner is allowed.
+    ensures unmarked { IfOk result (λ job. (form_shape job.form).straight ≡ false) }
     ensures fault { IfErr result (λ e. (e ≡ JobStop.NoMemory)
         ⊎ ((fault : Fault) × (e ≡ JobStop.Fault fault) × IsFirstFault bytes.now fault)) }
     // Where they have a first fault, it is the one that is returned.
