@@ -1,5 +1,5 @@
 -- What a call wrote, from what the calls in it wrote.
-use Rattle.std.proofs.Common.{◌≡◌, ◌≢◌, ℕ, ◌+◌, ◌<◌, ◌≤◌, ◌⊎◌, Bool, List, [], ◌++◌, Option, None, Some, IfSome, Err, length, refl, sym, ap, ◌∙◌, subst, inl, inr, arith, append-nil, length-append}
+use Rattle.std.proofs.Common.{◌≡◌, ◌≢◌, ℕ, ◌+◌, ◌<◌, ◌≤◌, ◌⊎◌, Bool, false, List, [], ◌++◌, Option, None, Some, IfSome, Err, length, refl, sym, ap, ◌∙◌, subst, inl, inr, arith, append-nil, length-append}
 use Rattle.std.specs.Io.KnownBytes.{Consumes, Appends, IsAtEnd}
 use Rattle.std.specs.List.{AllByRecursion}
 use Rattle.std.proofs.KnownBytes.{Appends-nil}
@@ -9,9 +9,12 @@ use Rattle.fs_gluing.specs.declared.faults.Fault.TheVariants.{TooLong}
 use Rattle.fs_gluing.specs.declared.faults.BuildStop.{BuildStop}
 use Rattle.fs_gluing.specs.declared.faults.BuildStop.TheVariants as stops
 use Rattle.fs_gluing.specs.FirstFault.{Test, PassesOf, tests_of, IsFirstFailure, IsBuildResult, stop_of}
+use Rattle.fs_gluing.specs.declared.shapes.Shape.{Shape}
 use Rattle.fs_gluing.specs.Shape.{HasShape}
 use Rattle.fs_gluing.specs.Surface.{GluedPolygons, IsSurface}
 use Rattle.fs_job.specs.declared.job.Command.{Command}
+use Rattle.fs_job.specs.declared.job.Job.{Job}
+use Rattle.fs_job.specs.Reading.{job_draft, form_shape}
 use Rattle.fs_job.specs.declared.job.JobStop.{JobStop}
 use Rattle.fs_job.specs.declared.job.JobStop.TheVariants as job_stops
 use Rattle.fs_job.specs.Draft.{Draft}
@@ -23,6 +26,12 @@ use Rattle.fs_cli.specs.declared.outcome.Status.TheVariants as status
 use Rattle.fs_cli.specs.Answer.{IsAnswered, no_job, not_built, answered, BeginsEach, draft_shape, stop_line, stop_status, AnswersAll, status_of}
 use Rattle.fs_cli.specs.Writing.{Writes, IsThisText, HasStatus}
 use Rattle.fs_cli.proofs.AnsweredUnique.{JobLaw, only_long, only_fault, only_stop, only_texts}
+
+-- the shape of a job without straight corners is that of its draft
+pub shape_of_draft : (job : Job) → (form_shape job.form).straight ≡ false → form_shape job.form ≡ draft_shape (job_draft job)
+shape_of_draft job unmarked =
+    let marked : Bool → Shape = λ mark. record { polygons = (form_shape job.form).polygons; glues = (form_shape job.form).glues; straight = mark } in
+    ap marked unmarked
 
 -- each answer begins with the empty text
 pub nothing_begins : (old held : Option (List ℕ)) → IfSome old (λ bytes. (prefix : List ℕ) × BeginsEach (IsAnswered bytes) prefix × Appends held held prefix)
