@@ -1,6 +1,5 @@
 -- All bytes have an answer.
-use Rattle.std.proofs.Common.{◌≡◌, ◌≤◌, ℕ, List, [], ◌∷◌, ◌++◌, length, refl, sym, ◌∙◌, subst, arith, append-nil, append_assoc}
-use Rattle.std.specs.List.{AllByRecursion}
+use Rattle.std.proofs.Common.{◌≤◌, ℕ, List, length, refl, arith}
 use Rattle.fs_io.specs.Whole.{most_bytes}
 use Rattle.fs_lists.proofs.First.{first_or_all}
 use Rattle.fs_gluing.specs.FirstFault.{PassesOf, tests_of}

@@ -1,5 +1,5 @@
 -- What a call wrote, from what the calls in it wrote.
-use Rattle.std.proofs.Common.{◌≡◌, ◌≢◌, ℕ, ◌+◌, ◌<◌, ◌≤◌, ◌⊎◌, Bool, List, [], ◌++◌, Option, None, Some, IfSome, Err, length, refl, sym, ap, ◌∙◌, subst, inl, inr, arith, append-nil, length-append}
+use Rattle.std.proofs.Common.{◌≡◌, ◌≢◌, ℕ, ◌+◌, ◌<◌, ◌≤◌, ◌⊎◌, Bool, false, List, [], ◌++◌, Option, None, Some, IfSome, Err, length, refl, sym, ap, ◌∙◌, subst, inl, inr, arith, append-nil, length-append}
 use Rattle.std.specs.Io.KnownBytes.{Consumes, Appends, IsAtEnd}
 use Rattle.std.specs.List.{AllByRecursion}
 use Rattle.std.proofs.KnownBytes.{Appends-nil}
@@ -9,9 +9,12 @@ use Rattle.fs_gluing.specs.declared.faults.Fault.TheVariants.{TooLong}
 use Rattle.fs_gluing.specs.declared.faults.BuildStop.{BuildStop}
 use Rattle.fs_gluing.specs.declared.faults.BuildStop.TheVariants as stops
 use Rattle.fs_gluing.specs.FirstFault.{Test, PassesOf, tests_of, IsFirstFailure, IsBuildResult, stop_of}
+use Rattle.fs_gluing.specs.declared.shapes.Shape.{Shape}
 use Rattle.fs_gluing.specs.Shape.{HasShape}
 use Rattle.fs_gluing.specs.Surface.{GluedPolygons, IsSurface}
 use Rattle.fs_job.specs.declared.job.Command.{Command}
+use Rattle.fs_job.specs.declared.job.Job.{Job}
+use Rattle.fs_job.specs.Reading.{job_draft, form_shape}
 use Rattle.fs_job.specs.declared.job.JobStop.{JobStop}
 use Rattle.fs_job.specs.declared.job.JobStop.TheVariants as job_stops
 use Rattle.fs_job.specs.Draft.{Draft}
@@ -23,6 +26,12 @@ use Rattle.fs_cli.specs.declared.outcome.Status.TheVariants as status
 use Rattle.fs_cli.specs.Answer.{IsAnswered, no_job, not_built, answered, BeginsEach, draft_shape, stop_line, stop_status, AnswersAll, status_of}
 use Rattle.fs_cli.specs.Writing.{Writes, IsThisText, HasStatus}
 use Rattle.fs_cli.proofs.AnsweredUnique.{JobLaw, only_long, only_fault, only_stop, only_texts}
+
+-- the shape of a job without straight corners is that of its draft
+pub shape_of_draft : (job : Job) → (form_shape job.form).straight ≡ false → form_shape job.form ≡ draft_shape (job_draft job)
+shape_of_draft job unmarked =
+    let marked : Bool → Shape = λ mark. record { polygons = (form_shape job.form).polygons; glues = (form_shape job.form).glues; straight = mark } in
+    ap marked unmarked
 
 -- each answer begins with the empty text
 pub nothing_begins : (old held : Option (List ℕ)) → IfSome old (λ bytes. (prefix : List ℕ) × BeginsEach (IsAnswered bytes) prefix × Appends held held prefix)
@@ -39,6 +48,15 @@ too_long_begins (Some bytes) (Some rest) taken held held' c many wrote =
     let long : most_bytes < length bytes = omega (arith, ap length c, length-append taken rest) in
     (wrote.0, λ output r answered. wrote.1 output r (only_long bytes long output r answered), wrote.2)
 
+-- bytes that are too many are refused only
+pub too_long_only : (old new : Option (List ℕ)) (taken : List ℕ) (result : Status) → Consumes old new taken → length taken ≡ most_bytes + 1 → result ≡ status.Refused
+    → IfSome old (λ bytes. (output : List ℕ) → (other : Status) → IsAnswered bytes output other → other ≡ result)
+too_long_only None new taken result c many is = tt
+too_long_only (Some bytes) None taken result c many is = absurd c
+too_long_only (Some bytes) (Some rest) taken result c many is =
+    let long : most_bytes < length bytes = omega (arith, ap length c, length-append taken rest) in
+    λ output other answered. (only_long bytes long output other answered).1 ∙ sym is
+
 -- what was read to the end is all that was left
 pub all_read : (old new : Option (List ℕ)) (items : List ℕ) → Consumes old new items → IsAtEnd new → (P : List ℕ → Type 0) → P items → IfSome old P
 all_read None new items c e P p = tt
@@ -54,6 +72,7 @@ module _ (result : Status) (held held' : Option (List ℕ)) (faults faults' : �
     whole = λ whole. let wrote = w.whole whole in (wrote.0, there wrote.0 result wrote.1, wrote.2);
     broken = λ broken. let wrote = w.broken broken in (wrote.0, λ output r means. wrote.1 output r (back output r means), wrote.2);
     write_fault = w.write_fault;
+    kept = w.kept;
     never_falls = w.never_falls;
   }
 

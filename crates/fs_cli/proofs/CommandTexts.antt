@@ -1,5 +1,5 @@
 -- The answers to commands, written one after the other.
-use Rattle.std.proofs.Common.{◌≡◌, ◌≢◌, ℕ, ◌+◌, ◌<◌, ◌≤◌, Bool, true, false, ◌||◌, List, [], ◌∷◌, ◌++◌, Option, length, take, drop, get_or, refl, sym, ap, ◌∙◌, subst, arith, inl, inr, append-nil, append_assoc, take-append-drop}
+use Rattle.std.proofs.Common.{◌≡◌, ◌≢◌, ℕ, ◌+◌, ◌<◌, ◌≤◌, Bool, true, false, ◌||◌, List, [], ◌∷◌, ◌++◌, Option, length, take, drop, get_or, refl, sym, ap, ◌∙◌, subst, arith, inl, append-nil, append_assoc, take-append-drop}
 use Rattle.std.specs.Io.KnownBytes.{Appends}
 use Rattle.std.proofs.KnownBytes.{Appends-trans}
 use Rattle.std.proofs.Math.Bool.{or_assoc, or-false}
@@ -41,6 +41,13 @@ not_broken false b = b
 not_write_fault : (p : Bool) → status_of p ≡ status.WriteFault → ⊥
 not_write_fault true e = cc
 not_write_fault false e = cc
+
+-- a text that was written whole is no fault of writing
+pub done_no_fault : {result : Status} → result ≡ status.Done → result ≢ status.WriteFault
+done_no_fault done e = cc
+
+pub partial_no_fault : {result : Status} → result ≡ status.Partial → result ≢ status.WriteFault
+partial_no_fault partial e = cc
 
 -- the first i commands were answered, with this status so far
 abbrev pub AreAnswered : GluedPolygons → List Command → ℕ → Status → Option (List ℕ) → Option (List ℕ) → Type 0
@@ -151,13 +158,10 @@ module _ (s : GluedPolygons) (surface : IsSurface s) where
           begin_all this (drop (i + 1) commands) prefix begins (take i commands) written.0 output written.1.0 means.0 written.1.1
           (subst (λ (all : List Command). AnswersAll s all output means.0) parts means.1)
 
-      rose : (faults : ℕ) → Rose faults' faults'' → faults ≤ faults' → Rose faults faults''
-      rose faults r f = elim r [ inl more ↦ inl (omega arith) | inr last ↦ inr last ]
-
       -- writing broke off at the next command
-      pub broken_off : (faults : ℕ) → faults ≤ faults' → result ≢ status.Done → result ≢ status.Partial
+      pub broken_off : (faults : ℕ) → faults' ≡ faults → result ≢ status.Done → result ≢ status.Partial
           → Writes (HasStatus (AnswersAll s commands)) result held after faults faults''
-      broken_off faults falls not_done not_partial =
+      broken_off faults same not_done not_partial =
           let not_whole : ¬ IsWhole result = λ whole. let wrote = w.whole whole in neither wrote.1.0 result wrote.1.2 not_done not_partial in
           record {
             kinds = w.kinds;
@@ -165,14 +169,15 @@ module _ (s : GluedPolygons) (surface : IsSurface s) where
             broken = λ broken.
                 let prefix = w.broken broken in
                 (written.0 ++ prefix.0, begun prefix.0 prefix.1, Appends-trans held before after written.0 prefix.0 written.2 prefix.2);
-            write_fault = λ e. rose faults (w.write_fault e) falls;
+            write_fault = λ e. subst (λ (f : ℕ). Rose f faults'') same (w.write_fault e);
+            kept = λ other. w.kept other ∙ same;
             never_falls = let later = w.never_falls in omega arith;
           }
 
     -- the last one was answered
-    pub all_written : (i : ℕ) (held held' : Option (List ℕ)) (result : Status) (faults faults' : ℕ) → length commands ≤ i → AreAnswered s commands i result held held' → faults ≤ faults'
+    pub all_written : (i : ℕ) (held held' : Option (List ℕ)) (result : Status) (faults faults' : ℕ) → length commands ≤ i → AreAnswered s commands i result held held' → faults' ≡ faults
         → Writes (HasStatus (AnswersAll s commands)) result held held' faults faults'
-    all_written i held held' result faults faults' h written falls =
+    all_written i held held' result faults faults' h written same =
         let p = written.1.0 in
         let is = written.1.2 in
         record {
@@ -180,5 +185,6 @@ module _ (s : GluedPolygons) (surface : IsSurface s) where
           whole = λ _. (written.0, (p, subst (λ (all : List Command). AnswersAll s all written.0 p) (take_all i commands h) written.1.1, is), written.2);
           broken = λ broken. absurd (not_broken p (subst IsBroken is broken));
           write_fault = λ e. absurd (not_write_fault p (sym is ∙ e));
-          never_falls = falls;
+          kept = λ _. same;
+          never_falls = omega arith;
         }

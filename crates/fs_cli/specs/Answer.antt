@@ -29,9 +29,9 @@ stop_status (stops.Fault fault) = status.Refused
 stop_status (stops.Overflow site) = status.Partial
 stop_status stops.NoMemory = status.NoMemory
 
--- the shape that a job describes
+-- the shape that a job describes: without straight corners
 abbrev pub draft_shape : Draft → Shape
-draft_shape draft = record { polygons = draft.polygons; glues = draft.glues }
+draft_shape draft = record { polygons = draft.polygons; glues = draft.glues; straight = false }
 
 -- the status of a text, by whether it is in place of a whole answer
 abbrev pub status_of : Bool → Status

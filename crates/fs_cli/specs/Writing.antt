@@ -1,5 +1,5 @@
 -- What a call wrote into the sink, whole or broken off. The contract of `flat` doesn't rest on this file.
-use Rattle.std.specs.Prelude.{◌≡◌, ℕ, ◌≤◌, ◌⊎◌, Bool, List, Option}
+use Rattle.std.specs.Prelude.{◌≡◌, ◌≢◌, ℕ, ◌≤◌, ◌⊎◌, Bool, List, Option}
 use Rattle.std.specs.Io.KnownBytes.{Appends}
 use Rattle.fs_io.specs.Faults.{Rose}
 use Rattle.fs_cli.specs.declared.outcome.Status.{Status}
@@ -20,4 +20,5 @@ pub record Writes (Means : List ℕ → Status → Type 0) (result : Status) (he
   pub whole : IsWhole result → (output : List ℕ) × Means output result × Appends held held' output
   pub broken : IsBroken result → (prefix : List ℕ) × BeginsEach Means prefix × Appends held held' prefix
   pub write_fault : result ≡ status.WriteFault → Rose faults faults'
+  pub kept : result ≢ status.WriteFault → faults' ≡ faults
   pub never_falls : faults ≤ faults'

@@ -9,6 +9,7 @@ ghost use Rattle.fs_cli.specs.Answer.{IsAnswered, IsWhole, IsBroken, BeginsEach}
 ghost use Rattle.fs_cli.specs.Writing.{Writes};
 
 use crate::answering::{answer_all, refuse, stop_at};
+use crate::laws::one_answer;
 use crate::outcome::Status;
 use fs_gluing::{BuildStop, Fault, Shape, build};
 use fs_io::{ReadStop, Sink, Source, read_all};
@@ -64,6 +65,9 @@ pub fn flat<I: Source, O: Sink>(
     // The whole answer was appended to what the sink held.
     ensures whole { IsWhole result → IfSome (I.left input.old) (λ bytes.
         (output : List ℕ) × IsAnswered bytes output result × Appends (O.held out.old) (O.held out.new) output) }
+    // Each answer that the bytes have is this one.
+    ensures only { IsWhole result → IfSome (I.left input.old) (λ bytes.
+        (output : List ℕ) → (other : Status) → IsAnswered bytes output other → other ≡ result) }
     // The source was read to its end, except for a text that is too long.
     ensures end { IsWhole result → IfSome (I.left input.old) (λ bytes.
         length bytes ≤ most_bytes → IsAtEnd (I.left input.new)) }
@@ -74,6 +78,11 @@ pub fn flat<I: Source, O: Sink>(
         → Keeps (O.held out.old) (O.held out.new) × Rose (I.faults input.old) (I.faults input.new) }
     ensures write_fault { result ≡ Status.WriteFault → Rose (O.faults out.old) (O.faults out.new) }
 
+    // No count rose where the whole answer was given, or where memory ran out.
+    ensures kept { IsWhole result → (I.faults input.new ≡ I.faults input.old) × (O.faults out.new ≡ O.faults out.old) }
+    ensures no_memory { result ≡ Status.NoMemory
+        → (I.faults input.new ≡ I.faults input.old) × (O.faults out.new ≡ O.faults out.old) }
+
     // In any case a prefix of what was left was taken, and the counts didn't fall.
     ensures taken { TakesPrefix (I.left input.old) (I.left input.new) }
     ensures input_count { I.faults input.old ≤ I.faults input.new }
@@ -82,6 +91,8 @@ pub fn flat<I: Source, O: Sink>(
     if !words.is_empty() {
         return Status::Usage;
     }
+    // Each text has one answer, with one status.
+    one_answer();
     match read_all(alloc, input) {
         Ok(bytes) => answer(alloc, &bytes, out),
         Err(ReadStop::TooLong) => refuse(alloc, &Fault::TooLong, out),

@@ -2,9 +2,8 @@
 
 use fs_cli::{Status, flat};
 use fs_io::{MemSink, MemSource};
-use std::alloc::{AllocError, Global};
+use std::alloc::Global;
 use std::process::Abort;
-use std::test::Fail;
 
 const SQUARE: [&str; 7] = [
     "flatsurf 1",
@@ -16,65 +15,78 @@ const SQUARE: [&str; 7] = [
     "end",
 ];
 
+// Adds a text to the bytes.
+pub fn add(rt: &impl Abort, bytes: &mut Vec<u8>, text: &str) {
+    bytes
+        .extend_from_slice(text.as_bytes())
+        .expect(rt, "memory");
+}
+
 // The job of the unit square, with this text in place of one of its lines, from 1.
-pub fn square_with(alloc: Global, number: usize, text: &str) -> Result<Vec<u8>, AllocError> {
+pub fn square_with(rt: &impl Abort, alloc: Global, number: usize, text: &str) -> Vec<u8> {
     let mut job = Vec::new(alloc);
     for (i, line) in SQUARE.iter().enumerate() {
         if i + 1 == number {
-            job.extend_from_slice(text.as_bytes())?;
+            add(rt, &mut job, text);
         } else {
-            job.extend_from_slice(line.as_bytes())?;
-            job.push(b'\n')?;
+            add(rt, &mut job, line);
+            add(rt, &mut job, "\n");
         }
     }
-    Ok(job)
+    job
 }
 
-// What is written for a job, and the status.
-pub fn run(alloc: Global, job: Vec<u8>) -> Result<(Status, MemSink), Fail> {
+// A text so many times over.
+pub fn repeated(rt: &impl Abort, alloc: Global, text: &str, times: usize) -> String {
+    let mut all = String::new(alloc);
+    for _ in 0..times {
+        all.push_str(text).expect(rt, "memory");
+    }
+    all
+}
+
+// A sink with room for so many bytes, of which these calls fail.
+pub fn sink(rt: &impl Abort, alloc: Global, room: usize, failing: Vec<u64>) -> MemSink {
+    MemSink::new(alloc, room, failing).expect(rt, "memory")
+}
+
+// That a job is answered with these lines, and with the status that belongs to them.
+pub fn expect_answer(rt: &impl Abort, alloc: Global, job: Vec<u8>, answer: &str) {
     let mut input = MemSource::new(job, 64, Vec::new(alloc));
-    let mut out = MemSink::new(alloc, 8192, Vec::new(alloc))
-        .ok()
-        .ok_or("no room")?;
+    let mut out = sink(rt, alloc, 8192, Vec::new(alloc));
     let status = flat(alloc, &[], &mut input, &mut out);
-    Ok((status, out))
+    assert_eq!(rt; out.held(), answer.as_bytes(), "{answer}");
+    assert_eq!(rt; status, status_of(answer), "{answer}");
 }
 
 // That the unit square's job, with this text in place of one of its lines, is answered with
-// these lines, and with the status that belongs to them.
-pub fn expect_change(
-    rt: &impl Abort,
-    alloc: Global,
-    number: usize,
-    text: &str,
-    answer: &str,
-) -> Result<(), Fail> {
-    let (status, out) = run(alloc, square_with(alloc, number, text)?)?;
-    assert_eq!(rt; out.held(), answer.as_bytes(), "line {number}: {text}");
-    assert_eq!(rt; status, status_of(answer), "line {number}: {text}");
-    Ok(())
+// these lines.
+pub fn expect_change(rt: &impl Abort, alloc: Global, number: usize, text: &str, answer: &str) {
+    expect_answer(rt, alloc, square_with(rt, alloc, number, text), answer);
 }
 
-// That the job which checks these polygon and glue lines is answered with this line, and with the
-// status that belongs to it.
-pub fn expect(
+// That the job with these polygon and glue lines and these commands is answered with these lines.
+pub fn expect_lines(
     rt: &impl Abort,
     alloc: Global,
     d: u16,
-    polygons: (&str, &str),
-    glues: &str,
+    lines: &[&str],
+    commands: &str,
     answer: &str,
-) -> Result<(), Fail> {
-    let (first, second) = polygons;
-    let job = format!(in alloc; "flatsurf 1\nfield {d}\n{first}{second}{glues}check\nend\n")?;
-    let (status, out) = run(alloc, job.as_bytes().to_vec(alloc)?)?;
-    assert_eq!(rt; out.held(), answer.as_bytes(), "{job}");
-    assert_eq!(rt; status, status_of(answer), "{job}");
-    Ok(())
+) {
+    let header = format!(in alloc; "flatsurf 1\nfield {d}\n").expect(rt, "memory");
+    let mut job = Vec::new(alloc);
+    add(rt, &mut job, &header);
+    for line in lines.iter() {
+        add(rt, &mut job, line);
+    }
+    add(rt, &mut job, commands);
+    add(rt, &mut job, "end\n");
+    expect_answer(rt, alloc, job, answer);
 }
 
 // The status that belongs to an answer of these lines.
-pub fn status_of(answer: &str) -> Status {
+fn status_of(answer: &str) -> Status {
     if answer.starts_with("refused ") {
         Status::Refused
     } else if answer.lines().any(|line| line.contains(" overflow ")) {

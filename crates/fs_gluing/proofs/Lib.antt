@@ -3,5 +3,6 @@ pub mod Base
 pub mod Polygon
 pub mod Scale
 pub mod SurfaceCalls
+pub mod Sides
 pub mod Gluing
 pub mod Outcome

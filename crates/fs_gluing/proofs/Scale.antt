@@ -1,3 +1,4 @@
 -- A shape is scaled.
 pub mod ScalingInTurn
+pub mod CommonDenominator
 pub mod ScaledVectors

@@ -1,7 +1,7 @@
 -- The area of polygons, as a sum of triangles, and where its computation overflows.
 use Rattle.std.specs.Prelude.{ℕ, ◌+◌, List, [], ◌∷◌, ◌++◌, Result, Ok, Err, map, drop}
 use Rattle.fs_ring.specs.Vector as plane
-use Rattle.fs_quadratic.specs.Ring.{Quadratic, quadratic, zero, add}
+use Rattle.fs_quadratic.specs.Ring.{Quadratic, quadratic, total}
 use Rattle.fs_quadratic.specs.declared.steps.Place.{Place}
 use Rattle.fs_plane.specs.declared.sites.Site.{Site}
 use Rattle.fs_plane.specs.declared.sites.Site.TheVariants as sites
@@ -43,14 +43,9 @@ triangles s = all_triangles 0 (map side_vectors s.polygons)
 abbrev pub twice_triangle : ℕ → Triangle → Quadratic
 twice_triangle d t = plane.twice_area (quadratic d) vector_zero t.one t.two
 
--- twice the area of all of these
-abbrev pub twice_areas : ℕ → List Triangle → Quadratic
-twice_areas d [] = zero
-twice_areas d (t ∷ triangles) = add (twice_triangle d t) (twice_areas d triangles)
-
 -- twice the area of the surface, times the square of its denominator
 abbrev pub twice_area : GluedPolygons → Quadratic
-twice_area s = twice_areas s.d (triangles s)
+twice_area s = total (map (twice_triangle s.d) (triangles s))
 
 -- ---- how it is computed
 

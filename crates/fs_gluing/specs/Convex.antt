@@ -1,7 +1,6 @@
 -- Closed convex polygons, by their side vectors in the order of the boundary.
 use Rattle.std.specs.Prelude.{◌≡◌, ℕ, Bool, ◌&&◌, List, [], ◌∷◌, take, count_by}
-use Rattle.fs_quadratic.specs.Ring.{IsPositive}
-use Rattle.fs_plane.specs.Vector.{vector_zero, vector_neg, vector_total, cross, is_upper, PlaneVector}
+use Rattle.fs_plane.specs.Vector.{vector_zero, vector_neg, vector_total, is_upper, PlaneVector}
 
 -- the position of corner j, where corner 0 is at (0,0)
 abbrev pub corner_position : List PlaneVector → ℕ → PlaneVector
@@ -30,10 +29,6 @@ last_side (side ∷ (next ∷ sides)) = last_side (next ∷ sides)
 -- the corners of a polygon: the side that ends at corner 0 is the last one
 abbrev pub corners_of : List PlaneVector → List CornerSides
 corners_of polygon = corners_from (last_side polygon) polygon
-
--- the angle at the corner is less than π: the boundary turns left there
-abbrev pub IsStrictlyConvex : ℕ → CornerSides → Type 0
-IsStrictlyConvex d corner = IsPositive d (cross d corner.before corner.after)
 
 -- the boundary passes from the lower half to the upper: the opposite of the side before points into the upper half, and so does the side after
 abbrev pub is_rise : ℕ → CornerSides → Bool

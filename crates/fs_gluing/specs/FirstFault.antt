@@ -1,19 +1,19 @@
 -- What is tested of a shape, in which order, and which fault or overflow a failed test gives.
-use Rattle.std.specs.Prelude.{◌≡◌, ◌≢◌, ℕ, ◌+◌, ◌≤◌, ◌⊎◌, List, [], ◌∷◌, ◌++◌, Option, Some, None, Result, Ok, Err, length, map, Contains}
+use Rattle.std.specs.Prelude.{◌≡◌, ◌≢◌, ℕ, Bool, ◌+◌, ◌≤◌, ◌⊎◌, List, [], ◌∷◌, ◌++◌, Option, Some, None, Result, Ok, Err, length, map, Contains}
 use Rattle.std.specs.List.{AllByRecursion, flat_map, range_with_len}
 use Rattle.fs_lists.specs.First.{IsFirstWithout}
 use Rattle.fs_quadratic.specs.Width.{Fits}
 use Rattle.fs_plane.specs.declared.corners.Corner.{Corner}
 use Rattle.fs_plane.specs.declared.sites.Site.TheVariants as sites
-use Rattle.fs_plane.specs.Vector.{vector_neg, PlaneVector}
+use Rattle.fs_plane.specs.Vector.{vector_neg, IsAllowedCorner, PlaneVector}
 use Rattle.fs_quadratic.specs.Checked.{place}
-use Rattle.fs_plane.specs.Formulas.{cross_after}
+use Rattle.fs_plane.specs.Formulas.{is_convex_after}
 use Rattle.fs_gluing.specs.declared.shapes.Glue.{Glue}
 use Rattle.fs_gluing.specs.declared.shapes.Shape.{Shape}
 use Rattle.fs_gluing.specs.declared.faults.Fault.TheVariants as faults
 use Rattle.fs_gluing.specs.declared.faults.BuildStop.{BuildStop}
 use Rattle.fs_gluing.specs.declared.faults.BuildStop.TheVariants as stops
-use Rattle.fs_gluing.specs.Convex.{CornerSides, IsClosed, IsStrictlyConvex, HasTurningNumberOne, corners_of, corner_position}
+use Rattle.fs_gluing.specs.Convex.{CornerSides, IsClosed, HasTurningNumberOne, corners_of, corner_position}
 use Rattle.fs_gluing.specs.Gluing.{IsPairOf}
 use Rattle.fs_gluing.specs.Polygons.{HasSide, at_side, all_sides}
 use Rattle.fs_gluing.specs.Reached.{IsReached}
@@ -32,31 +32,33 @@ pub data PolygonTest : Type 0 where
   y_fits : (j : ℕ) → PolygonTest
   -- it closes
   polygon_closes : PolygonTest
-  -- at corner j the cross product of the two sides doesn't overflow at place p
-  cross_fits : (j : ℕ) → CornerSides → (p : ℕ) → PolygonTest
-  -- corner j is strictly convex
+  -- at corner j the test of the two sides doesn't overflow at place p
+  corner_fits : (j : ℕ) → CornerSides → (p : ℕ) → PolygonTest
+  -- corner j is strictly convex, or also straight, where straight corners are allowed
   corner_convex : (j : ℕ) → CornerSides → PolygonTest
   -- its turning number is 1
   turning_number_one : PolygonTest
 
--- the polygon passes the test
-abbrev pub PassesIn : ℕ → List PlaneVector → PolygonTest → Type 0
-PassesIn d polygon three_sides = 3 ≤ length polygon
-PassesIn d polygon (x_fits j) = Fits (corner_position polygon (j + 1)).x
-PassesIn d polygon (y_fits j) = Fits (corner_position polygon (j + 1)).y
-PassesIn d polygon polygon_closes = IsClosed polygon
-PassesIn d polygon (cross_fits j corner p) = cross_after 0 d corner.before corner.after ≢ Err (place p)
-PassesIn d polygon (corner_convex j corner) = IsStrictlyConvex d corner
-PassesIn d polygon turning_number_one = HasTurningNumberOne d polygon
+-- the polygon passes the test, by whether straight corners are allowed
+abbrev pub PassesIn : Bool → ℕ → List PlaneVector → PolygonTest → Type 0
+PassesIn straight d polygon three_sides = 3 ≤ length polygon
+PassesIn straight d polygon (x_fits j) = Fits (corner_position polygon (j + 1)).x
+PassesIn straight d polygon (y_fits j) = Fits (corner_position polygon (j + 1)).y
+PassesIn straight d polygon polygon_closes = IsClosed polygon
+PassesIn straight d polygon (corner_fits j corner p) = is_convex_after 0 straight d corner.before corner.after ≢ Err (place p)
+PassesIn straight d polygon (corner_convex j corner) = IsAllowedCorner straight d corner.before corner.after
+PassesIn straight d polygon turning_number_one = HasTurningNumberOne d polygon
 
 -- the tests of the positions at the ends of n sides
 abbrev pub position_tests : ℕ → List PolygonTest
 position_tests n = flat_map (λ j. x_fits j ∷ y_fits j ∷ []) (range_with_len 0 n)
 
--- the tests of these corners, the first of which has the number j
+-- the tests of these corners, the first of which has the number j: places 1 to 3 are the cross product of the two sides, places 4 to 6 their dot product
 abbrev pub corner_tests : ℕ → List CornerSides → List PolygonTest
 corner_tests j [] = []
-corner_tests j (corner ∷ rest) = cross_fits j corner 1 ∷ cross_fits j corner 2 ∷ cross_fits j corner 3 ∷ corner_convex j corner ∷ corner_tests (j + 1) rest
+corner_tests j (corner ∷ rest) =
+    corner_fits j corner 1 ∷ corner_fits j corner 2 ∷ corner_fits j corner 3 ∷ corner_fits j corner 4 ∷ corner_fits j corner 5 ∷ corner_fits j corner 6
+    ∷ corner_convex j corner ∷ corner_tests (j + 1) rest
 
 -- the tests of a polygon, in order
 abbrev pub polygon_tests : List PlaneVector → List PolygonTest
@@ -113,13 +115,13 @@ pub record Joins (glues : List Glue) (i j : ℕ) : Type 0 where
   pub from : one.polygon ≡ i
   pub to : two.polygon ≡ j
 
--- a scaled shape passes the test
-abbrev pub Passes : ℕ → List (List PlaneVector) → List Glue → Test → Type 0
-Passes d polygons glues (of_scaling test) = PassesScale test
-Passes d polygons glues (of_polygon i polygon test) = PassesIn d polygon test
-Passes d polygons glues (of_line test) = PassesLine polygons test
-Passes d polygons glues (side_glued c) = Contains (glued_sides glues) c
-Passes d polygons glues (polygon_reached i) = IsReached (Joins glues) i
+-- a scaled shape passes the test, by whether straight corners are allowed
+abbrev pub Passes : Bool → ℕ → List (List PlaneVector) → List Glue → Test → Type 0
+Passes straight d polygons glues (of_scaling test) = PassesScale test
+Passes straight d polygons glues (of_polygon i polygon test) = PassesIn straight d polygon test
+Passes straight d polygons glues (of_line test) = PassesLine polygons test
+Passes straight d polygons glues (side_glued c) = Contains (glued_sides glues) c
+Passes straight d polygons glues (polygon_reached i) = IsReached (Joins glues) i
 
 -- the tests of polygons, the first of which has the number i
 abbrev pub tests_from : ℕ → List (List PlaneVector) → List Test
@@ -142,7 +144,7 @@ stop_of (of_polygon i polygon three_sides) = stops.Fault (faults.FewSides i)
 stop_of (of_polygon i polygon (x_fits j)) = stops.Overflow (sites.Close i j 1)
 stop_of (of_polygon i polygon (y_fits j)) = stops.Overflow (sites.Close i j 2)
 stop_of (of_polygon i polygon polygon_closes) = stops.Fault (faults.NotClosed i)
-stop_of (of_polygon i polygon (cross_fits j corner p)) = stops.Overflow (sites.Corner i j p)
+stop_of (of_polygon i polygon (corner_fits j corner p)) = stops.Overflow (sites.Corner i j p)
 stop_of (of_polygon i polygon (corner_convex j corner)) = stops.Fault (faults.NotConvex (record { polygon = i; side = j }))
 stop_of (of_polygon i polygon turning_number_one) = stops.Fault (faults.TurnsTwice i)
 stop_of (of_line (sides_exist g)) = stops.Fault (faults.NoSuchSide g.line)
@@ -153,7 +155,7 @@ stop_of (polygon_reached i) = stops.Fault (faults.Apart i)
 
 -- the shape passes a test of its polygons and glue lines
 abbrev pub PassesOf : ℕ → Shape → Test → Type 0
-PassesOf d shape = Passes d (polygons_of shape) shape.glues
+PassesOf d shape = Passes shape.straight d (polygons_of shape) shape.glues
 
 -- the tests of a shape, in order: scaling comes first
 abbrev pub tests_of : Shape → List Test

@@ -1,5 +1,7 @@
 -- One denominator for all coordinates of a shape.
 use Rattle.std.specs.Prelude.{ℕ, ℤ, pos, ◌+◌, ◌*◌, ◌/◌, ◌*ℤ◌, List, [], ◌∷◌, ◌++◌, map}
+use Rattle.std.specs.Int.{◌∣◌}
+use Rattle.std.specs.List.{AllByRecursion}
 use Rattle.fs_quadratic.specs.Width.{InWidth}
 use Rattle.fs_fraction.specs.Divisor.{gcd}
 use Rattle.fs_fraction.specs.Fraction.{scale}
@@ -26,11 +28,11 @@ numbered_from i (polygon ∷ polygons) = numbered_sides i 0 polygon ++ numbered_
 abbrev pub all_numbered : List (List Point) → List NumberedSide
 all_numbered polygons = numbered_from 0 polygons
 
--- a common multiple: the product over the greatest common divisor
+-- the least common multiple: the product over the greatest common divisor
 abbrev pub common_multiple : ℕ → ℕ → ℕ
 common_multiple m n = m * (n / gcd m n)
 
--- the common multiple of m and of the denominators of these sides, x before y
+-- the least common multiple of m and of the denominators of these sides, x before y
 abbrev pub common_from : ℕ → List NumberedSide → ℕ
 common_from m [] = m
 common_from m (s ∷ sides) = common_from (common_multiple (common_multiple m s.vector.x.den) s.vector.y.den) sides
@@ -38,6 +40,19 @@ common_from m (s ∷ sides) = common_from (common_multiple (common_multiple m s.
 -- the common denominator of a shape's polygons
 abbrev pub common_den : List (List Point) → ℕ
 common_den polygons = common_from 1 (all_numbered polygons)
+
+-- the denominators of both coordinates divide n
+abbrev pub IsMultipleOf : ℕ → Point → Type 0
+IsMultipleOf n point = (point.x.den ∣ n) × (point.y.den ∣ n)
+
+-- the denominator of each coordinate divides n
+abbrev pub IsCommonMultiple : List (List Point) → ℕ → Type 0
+IsCommonMultiple polygons n = AllByRecursion (AllByRecursion (IsMultipleOf n)) polygons
+
+-- n is a common multiple of the denominators, and divides each one
+pub record IsLeastCommonMultiple (polygons : List (List Point)) (n : ℕ) : Type 0 where
+  pub multiple : IsCommonMultiple polygons n
+  pub least : (k : ℕ) → IsCommonMultiple polygons k → n ∣ k
 
 -- a vector times a multiple of its denominators
 abbrev pub scaled_vector : ℕ → Point → PlaneVector

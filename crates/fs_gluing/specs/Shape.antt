@@ -10,7 +10,7 @@ use Rattle.fs_gluing.specs.declared.shapes.Point.{Point}
 use Rattle.fs_gluing.specs.declared.shapes.Shape.{Shape}
 use Rattle.fs_gluing.specs.declared.surfaces.Side.{Side}
 use Rattle.fs_gluing.specs.Polygons.{at_side}
-use Rattle.fs_gluing.specs.Scaling.{scaled, common_den}
+use Rattle.fs_gluing.specs.Scaling.{scaled, common_den, IsLeastCommonMultiple}
 use Rattle.fs_gluing.specs.Surface.{GluedPolygons, side_vectors}
 
 -- the vectors of a shape's polygons, times their common denominator
@@ -36,10 +36,12 @@ pub record AreGlued (polygons : List (List Side)) (one two : Corner) : Type 0 wh
 abbrev pub IsScaledVector : ℕ → Point → PlaneVector → Type 0
 IsScaledVector den point vector = HasValue point.x vector.x den × HasValue point.y vector.y den
 
--- the surface has the shape's polygons, times the common denominator, and the sides on each glue line are glued
+-- the surface has the shape's mark of straight corners and its polygons, times the common denominator, which is the least common multiple of the denominators, and the sides on each glue line are glued
 pub record HasShape (d : ℕ) (shape : Shape) (s : GluedPolygons) : Type 0 where
   pub field : s.d ≡ d
+  pub straight : s.straight ≡ shape.straight
   pub denominator : s.den ≡ pos (common_den shape.polygons)
+  pub least : IsLeastCommonMultiple shape.polygons (unsigned_abs s.den)
   pub same_vectors : map side_vectors s.polygons ≡ polygons_of shape
   pub each_scaled : (c : Corner) (point : Point) (side : Side) → at_side shape.polygons c ≡ Some point → at_side s.polygons c ≡ Some side
       → IsScaledVector (unsigned_abs s.den) point side.vector

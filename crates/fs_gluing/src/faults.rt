@@ -29,7 +29,7 @@ pub enum Fault {
     FewSides { polygon: u16 },
     /// The sides of the polygon don't sum to (0,0).
     NotClosed { polygon: u16 },
-    /// The polygon isn't strictly convex at the corner.
+    /// The corner isn't strictly convex, nor straight, where straight corners are allowed.
     NotConvex(Corner),
     /// The turning number of the polygon isn't 1.
     TurnsTwice { polygon: u16 },

@@ -1,6 +1,6 @@
 // The tests of a polygon, and the positions of its corners.
 
-ghost use Rattle.std.specs.Prelude.{◌≡◌, ℕ, List, [], ◌∷◌, ◌++◌, ◌≤◌, ◌⊎◌, length, IfOk, OnOk, IfErr, count_by};
+ghost use Rattle.std.specs.Prelude.{◌≡◌, ℕ, Bool, List, [], ◌∷◌, ◌++◌, ◌≤◌, ◌⊎◌, length, IfOk, OnOk, IfErr, count_by};
 ghost use Rattle.std.specs.List.{AllByRecursion};
 ghost use Rattle.fs_plane.specs.Vector.{PlaneVector, vector_zero};
 ghost use Rattle.fs_gluing.specs.Limits.{most_sides};
@@ -14,29 +14,29 @@ ghost use Rattle.fs_gluing.specs.TestsInOrder.{IsFirstStop};
 
 use crate::faults::{BuildStop, Fault};
 use crate::sequence::Sequence;
-use fs_plane::{Corner, Place, Site, V2, cross};
+use fs_plane::{Corner, Place, Site, V2, is_convex};
 use fs_quadratic::Field;
 use std::alloc::Global;
-use std::cmp::Ordering;
 
 // The positions of the corners of the polygon with the number i, where it passes its tests.
 pub fn check_polygon(
     alloc: Global,
     field: Field,
+    straight: bool,
     i: u16,
     sides: &[V2],
 ) -> Result<Sequence<V2>, BuildStop>
     requires { length sides.now ≤ most_sides }
-    ensures passed { OnOk result (AllByRecursion (PassesIn field.d sides.now) (polygon_tests sides.now)) }
+    ensures passed { OnOk result (AllByRecursion (PassesIn straight field.d sides.now) (polygon_tests sides.now)) }
     ensures positions { IfOk result (λ positions. positions ≡ positions_from vector_zero sides.now) }
     ensures failed { IfErr result (λ e. (e ≡ BuildStop.NoMemory)
-        ⊎ IsFirstStop (PassesIn field.d sides.now) (polygon_tests sides.now) (λ test. stop_of (of_polygon i sides.now test)) e) }
+        ⊎ IsFirstStop (PassesIn straight field.d sides.now) (polygon_tests sides.now) (λ test. stop_of (of_polygon i sides.now test)) e) }
 {
     if sides.len() < 3 {
         return Err(BuildStop::Fault(Fault::FewSides { polygon: i }));
     }
     let positions = find_positions(alloc, i, sides)?;
-    check_corners(field, i, sides)?;
+    check_corners(field, straight, i, sides)?;
     if count_rises(field, sides) != 1 {
         return Err(BuildStop::Fault(Fault::TurnsTwice { polygon: i }));
     }
@@ -46,10 +46,10 @@ pub fn check_polygon(
 // The positions of the corners, where none overflows and the polygon closes.
 fn find_positions(alloc: Global, i: u16, sides: &[V2]) -> Result<Sequence<V2>, BuildStop>
     requires { length sides.now ≤ most_sides }
-    ensures passed { OnOk result ((d : ℕ) → AllByRecursion (PassesIn d sides.now) (position_tests (length sides.now) ++ polygon_closes ∷ [])) }
+    ensures passed { OnOk result ((straight : Bool) → (d : ℕ) → AllByRecursion (PassesIn straight d sides.now) (position_tests (length sides.now) ++ polygon_closes ∷ [])) }
     ensures positions { IfOk result (λ positions. positions ≡ positions_from vector_zero sides.now) }
-    ensures failed { IfErr result (λ e. (e ≡ BuildStop.NoMemory) ⊎ ((d : ℕ) →
-        IsFirstStop (PassesIn d sides.now) (position_tests (length sides.now) ++ polygon_closes ∷ []) (λ test. stop_of (of_polygon i sides.now test)) e)) }
+    ensures failed { IfErr result (λ e. (e ≡ BuildStop.NoMemory) ⊎ ((straight : Bool) → (d : ℕ) →
+        IsFirstStop (PassesIn straight d sides.now) (position_tests (length sides.now) ++ polygon_closes ∷ []) (λ test. stop_of (of_polygon i sides.now test)) e)) }
 {
     let mut positions = Sequence::new(alloc);
     let mut position = V2::ZERO;
@@ -70,31 +70,38 @@ fn find_positions(alloc: Global, i: u16, sides: &[V2]) -> Result<Sequence<V2>, B
     Ok(positions)
 }
 
-// That each corner of the polygon with the number i is strictly convex.
-fn check_corners(field: Field, i: u16, sides: &[V2]) -> Result<(), BuildStop>
+// That each corner of the polygon with the number i is strictly convex, or also straight, where
+// straight corners are allowed.
+fn check_corners(field: Field, straight: bool, i: u16, sides: &[V2]) -> Result<(), BuildStop>
     requires { length sides.now ≤ most_sides }
-    ensures passed { OnOk result (AllByRecursion (PassesIn field.d sides.now) (corner_tests 0 (corners_of sides.now))) }
+    ensures passed { OnOk result (AllByRecursion (PassesIn straight field.d sides.now) (corner_tests 0 (corners_of sides.now))) }
     ensures failed { IfErr result
-        (IsFirstStop (PassesIn field.d sides.now) (corner_tests 0 (corners_of sides.now)) (λ test. stop_of (of_polygon i sides.now test))) }
+        (IsFirstStop (PassesIn straight field.d sides.now) (corner_tests 0 (corners_of sides.now)) (λ test. stop_of (of_polygon i sides.now test))) }
 {
     let mut before = last_side(sides);
     for (j, after) in sides.iter().enumerate() {
-        check_corner(field, Corner::new(i, j as u16), before, *after)?;
+        check_corner(field, straight, Corner::new(i, j as u16), before, *after)?;
         before = *after;
     }
     Ok(())
 }
 
-// That a corner is strictly convex, by the side before it and the side after it.
-fn check_corner(field: Field, corner: Corner, before: V2, after: V2) -> Result<(), BuildStop>
-    ensures passed { OnOk result ((sides : List PlaneVector) → AllByRecursion (PassesIn field.d sides)
+// That a corner is one of these, by the side before it and the side after it.
+fn check_corner(
+    field: Field,
+    straight: bool,
+    corner: Corner,
+    before: V2,
+    after: V2,
+) -> Result<(), BuildStop>
+    ensures passed { OnOk result ((sides : List PlaneVector) → AllByRecursion (PassesIn straight field.d sides)
         (corner_tests corner.side (record { before = before; after = after } ∷ []))) }
-    ensures failed { IfErr result (λ e. (sides : List PlaneVector) → IsFirstStop (PassesIn field.d sides)
+    ensures failed { IfErr result (λ e. (sides : List PlaneVector) → IsFirstStop (PassesIn straight field.d sides)
         (corner_tests corner.side (record { before = before; after = after } ∷ [])) (λ test. stop_of (of_polygon corner.polygon sides test)) e) }
 {
-    match cross(field, before, after) {
-        Ok(product) if field.sign(product) == Ordering::Greater => Ok(()),
-        Ok(_) => Err(BuildStop::Fault(Fault::NotConvex(corner))),
+    match is_convex(field, straight, before, after) {
+        Ok(true) => Ok(()),
+        Ok(false) => Err(BuildStop::Fault(Fault::NotConvex(corner))),
         Err(Place(place)) => Err(BuildStop::Overflow(Site::convexity(corner, place))),
     }
 }

@@ -20,9 +20,10 @@ pub struct Glue {
 }
 
 /// What a surface is built from: polygons, each the list of its side vectors, counterclockwise,
-/// and the glued pairs of sides. `build` finds its faults.
+/// the glued pairs of sides, and whether straight corners are allowed. `build` finds its faults.
 #[derive(Drop)]
 pub struct Shape {
     pub polygons: Sequence<Sequence<Point>>,
     pub glues: Sequence<Glue>,
+    pub straight: bool,
 }

@@ -16,7 +16,8 @@ pub struct Side {
 }
 
 /// A translation surface: polygons whose sides are glued in pairs by translations. Each polygon
-/// has three sides or more, closes, is strictly convex at each corner and has turning number 1.
+/// has three sides or more, closes, is strictly convex at each corner, or also straight, where
+/// straight corners are allowed, and has turning number 1.
 /// Each side is glued to exactly one other, which has the opposite vector. The surface is
 /// connected: from polygon 0 glued sides lead to every polygon.
 ///
@@ -24,6 +25,7 @@ pub struct Side {
 #[derive(Drop)]
 pub struct Surface {
     field: Field,
+    straight: bool,
     den: i128,
     polygons: Sequence<Sequence<Side>>,
     positions: Sequence<Sequence<V2>>,
@@ -36,9 +38,9 @@ impl Model for Surface {
 
     ghost Value = { GluedPolygons };
 
-    ghost view = { λ s. record { d = s.field.d; den = s.den; polygons = s.polygons } };
+    ghost view = { λ s. record { d = s.field.d; straight = s.straight; den = s.den; polygons = s.polygons } };
 
-    ghost invariant = { λ s. IsSurface (record { d = s.field.d; den = s.den; polygons = s.polygons })
+    ghost invariant = { λ s. IsSurface (record { d = s.field.d; straight = s.straight; den = s.den; polygons = s.polygons })
         × (s.positions ≡ all_positions (map side_vectors s.polygons)) };
 }
 
@@ -54,16 +56,18 @@ impl Surface {
     // The surface of these glued polygons, the corners of which have these positions.
     pub(crate) fn new(
         field: Field,
+        straight: bool,
         den: i128,
         polygons: Sequence<Sequence<Side>>,
         positions: Sequence<Sequence<V2>>,
     ) -> Surface
-        requires surface { IsSurface (record { d = field.d; den = den; polygons = polygons }) }
+        requires surface { IsSurface (record { d = field.d; straight = straight; den = den; polygons = polygons }) }
         requires positions { positions ≡ all_positions (map side_vectors polygons) }
-        ensures { result ≡ record { d = field.d; den = den; polygons = polygons } }
+        ensures { result ≡ record { d = field.d; straight = straight; den = den; polygons = polygons } }
     {
         Surface {
             field,
+            straight,
             den,
             polygons,
             positions,
@@ -76,6 +80,13 @@ impl Surface {
         ensures surface { IsSurface self.now }
     {
         self.field
+    }
+
+    /// Whether straight corners are allowed.
+    pub fn straight(&self) -> bool
+        ensures { result ≡ self.now.straight }
+    {
+        self.straight
     }
 
     /// The positive number by which all unscaled vectors were multiplied.

@@ -11,4 +11,5 @@ pub mod StatementOutcomes
 pub mod Leads
 pub mod JobLines
 pub mod LineOutcomes
+pub mod ReadResults
 pub mod SoundDrafts

@@ -1,6 +1,6 @@
 // The job that is made line by line.
 
-ghost use Rattle.std.specs.Prelude.{◌≡◌, ◌≤◌, length, sum_by};
+ghost use Rattle.std.specs.Prelude.{◌≡◌, ◌≤◌, false, length, sum_by};
 ghost use Rattle.fs_gluing.specs.Limits.{most_polygons, most_sides};
 
 use crate::job::{Command, Form, Job};
@@ -18,12 +18,13 @@ pub struct DraftJob {
     ghost counted: { sides ≡ sum_by length shape.polygons },
     ghost few_sides: { sides ≤ most_sides },
     ghost few_polygons: { length shape.polygons ≤ most_polygons },
+    ghost unmarked: { shape.straight ≡ false },
 }
 
 impl DraftJob {
     ghost use Rattle.std.specs.Prelude.{[]};
     ghost use Rattle.fs_job.specs.Stage.{kept_draft};
-    ghost use Rattle.fs_job.specs.Reading.{job_draft};
+    ghost use Rattle.fs_job.specs.Reading.{job_draft, form_shape};
 
     // A job of this field, without polygons.
     pub fn new(alloc: Global, field: Field) -> DraftJob
@@ -34,6 +35,7 @@ impl DraftJob {
             shape: Shape {
                 polygons: Sequence::new(alloc),
                 glues: Sequence::new(alloc),
+                straight: false,
             },
             commands: Sequence::new(alloc),
             sides: 0,
@@ -42,7 +44,8 @@ impl DraftJob {
 
     // The job, once all its lines are read.
     pub fn into_job(self) -> Job
-        ensures { job_draft result ≡ kept_draft self }
+        ensures draft { job_draft result ≡ kept_draft self }
+        ensures unmarked { (form_shape result.form).straight ≡ false }
     {
         Job {
             field: self.field,

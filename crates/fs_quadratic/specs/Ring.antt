@@ -1,5 +1,5 @@
 -- The numbers p + q·√d. Their parts are whole numbers without bounds.
-use Rattle.std.specs.Prelude.{◌≡◌, ℕ, ℤ, pos, neg_ℤ, ◌+ℤ◌, ◌-ℤ◌, ◌*ℤ◌, ◌≤ℤ◌, ◌<ℤ◌}
+use Rattle.std.specs.Prelude.{◌≡◌, ℕ, ℤ, pos, neg_ℤ, ◌+ℤ◌, ◌-ℤ◌, ◌*ℤ◌, ◌≤ℤ◌, ◌<ℤ◌, List, [], ◌∷◌}
 use Rattle.std.specs.Ordering.{int_cmp, ordering_reverse}
 use Rattle.std.specs.declared.cmp.Ordering.{Ordering}
 use Rattle.std.specs.declared.cmp.Ordering.TheVariants.{Less, Equal, Greater}
@@ -16,6 +16,11 @@ zero = record { p = pos 0; q = pos 0 }
 -- the sum, by parts
 abbrev pub add : Quadratic → Quadratic → Quadratic
 add x y = record { p = x.p +ℤ y.p; q = x.q +ℤ y.q }
+
+-- the sum of a list of numbers
+abbrev pub total : List Quadratic → Quadratic
+total [] = zero
+total (x ∷ xs) = add x (total xs)
 
 -- the difference, by parts
 abbrev pub sub : Quadratic → Quadratic → Quadratic

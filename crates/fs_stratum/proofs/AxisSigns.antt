@@ -1,4 +1,4 @@
--- Strictly convex corners with a side along the first axis: the signs of the parts of the sides, over an ordered ring.
+-- Two vectors, the second left of the first, where one of them is along the first axis: the signs of their parts, over an ordered ring.
 use Rattle.std.proofs.Common.{◌≡◌, [], ◌∷◌, refl}
 use Rattle.fs_ring.specs.Operations.{Operations}
 use Rattle.fs_ring.specs.OrderedRing.{IsOrderedRing}
@@ -13,7 +13,7 @@ module _ {A : Type 0} {R : Operations A} {IsPositive : A → Type 0} (L : IsOrde
   open R use {mul as ◌*◌, neg, zero as 𝟘}
 
   infixl 70 ◌*◌
-  -- ---- a strictly convex corner from b to a
+  -- ---- a is left of b
 
   module _ (b a : Vector A) (convex : IsPositive (cross R b a)) where
     -- b along (1,0): a points up
@@ -81,12 +81,6 @@ module _ {A : Type 0} {R : Operations A} {IsPositive : A → Type 0} (L : IsOrde
     pub left_of_axis : (c : Vector A) → IsPositive c.y → IsPositive (cross R u c)
     left_of_axis c p =
         signs.positive_of_eq L (plane_derived L.ring [] (c ∷ u ∷ []) (λ c u. cross E u c ≐ u.x ⊗ c.y from (E.neg c.x, u.y ≐ numeral 0) ∷ []) refl (flat, tt)) (L.mul_positive ahead p)
-
-    -- the converse
-    pub left_of_axis_back : (c : Vector A) → IsPositive (cross R u c) → IsPositive c.y
-    left_of_axis_back c p =
-        signs.positive_of_mul_left L ahead
-        (signs.positive_of_eq L (plane_derived L.ring [] (c ∷ u ∷ []) (λ c u. u.x ⊗ c.y ≐ cross E u c from (c.x, u.y ≐ numeral 0) ∷ []) refl (flat, tt)) p)
 
     -- a vector with y = 0 and x above 0 is along u
     pub along_axis : (a : Vector A) → a.y ≡ 𝟘 → IsPositive a.x → IsAlong R IsPositive a u

@@ -1,9 +1,10 @@
--- Round a vertex at least one corner holds (1,0): each ray is to the left of the one before by less than π, so they can't all be on one side.
-use Rattle.std.proofs.Common.{◌≡◌, inl, inr, ℕ, zero, suc, ◌+◌, ◌-◌, ◌≤◌, true, false, not, ◌&&◌, Option, Some, None, List, [], ◌∷◌, sym, ap, ◌∙◌, refl, subst, arith}
+-- Round a vertex at least one corner holds (1,0): else all of its rays are on one side of the line of (1,0), each to the left of the one before.
+use Rattle.std.proofs.Common.{◌≡◌, inl, inr, ℕ, zero, suc, ◌+◌, ◌-◌, ◌≤◌, Bool, true, false, not, ◌&&◌, List, [], ◌∷◌, sym, ap, ◌∙◌, refl, subst, arith}
 use Rattle.std.proofs.lemmas.Bool.{cases_Bool, cases_eq}
 use Rattle.std.specs.declared.cmp.Ordering.{Ordering}
 use Rattle.std.specs.declared.cmp.Ordering.TheVariants.{Less, Equal, Greater}
 use Rattle.fs_ring.specs.Vector.{unit_vector, neg_vector, cross as cross_over}
+use Rattle.fs_ring.specs.Direction.{at_start, inside}
 use Rattle.fs_ring.proofs.Signs as signs
 use Rattle.fs_ring.proofs.Directions as directions
 use Rattle.fs_ring.proofs.Solver.{expressions as E, ◌≐◌}
@@ -15,17 +16,19 @@ use Rattle.fs_quadratic.proofs.SquareRoot.{radicand_no_square}
 use Rattle.fs_quadratic.proofs.Signs.{positive_of_sign, negative_of_sign}
 use Rattle.fs_cycles.proofs.Iterates.{iterate_after}
 use Rattle.fs_plane.specs.declared.corners.Corner.{Corner}
-use Rattle.fs_plane.specs.Vector.{vector_neg, vector_zero, cross, is_raised, raised_by_signs, PlaneVector, east}
+use Rattle.fs_plane.specs.Vector.{vector_neg, cross, is_raised, raised_by_signs, PlaneVector, east}
 use Rattle.fs_gluing.specs.declared.surfaces.Side.{Side}
-use Rattle.fs_gluing.specs.Polygons.{at_side, HasSide, all_sides}
-use Rattle.fs_gluing.specs.Surface.{GluedPolygons, IsSurface}
+use Rattle.fs_gluing.specs.Polygons.{HasSide, all_sides}
+use Rattle.fs_gluing.specs.Surface.{GluedPolygons, IsTranslationSurface}
 use Rattle.fs_gluing.specs.Vertices.{AreOneVertex, HoldsEast, IsConeNumber}
 use Rattle.fs_stratum.proofs.AxisSigns as axis
-use Rattle.fs_stratum.proofs.SectorOfEast.{HasConvexSigns, convex_signs}
+use Rattle.fs_stratum.proofs.SectorOfEast.{HasConvexSigns, convex_signs, raised-along}
 use Rattle.fs_stratum.proofs.CornerCounts.{count_zero}
-use Rattle.fs_stratum.proofs.AllSides.{in_all_sides}
-use Rattle.fs_stratum.proofs.VertexOrbits.{next, ahead, has_ahead, has_one_vertex, is_nth_next_ahead, comes_back}
-use Rattle.fs_stratum.proofs.CornerRays.{rays, raised_or, is_ray_raised, next_ray, holds_from_rays}
+use Rattle.fs_gluing.proofs.Sides.AllSides.{in_all_sides}
+use Rattle.fs_gluing.proofs.Sides.VertexOrbits.{next, ahead, has_ahead, has_one_vertex, is_nth_next_ahead, comes_back}
+use Rattle.fs_gluing.proofs.Sides.CornerRays.{rays, next_ray}
+use Rattle.fs_gluing.proofs.Sides.PartnerSides.{vector_or, vector_of}
+use Rattle.fs_stratum.proofs.RaisedRays.{raised_or, is_ray_raised, raised-here, raised-next, holds_from_rays}
 
 -- ---- vectors, each to the left of the one before
 
@@ -77,28 +80,33 @@ module _ {d : ℕ} (radicand : IsRadicand d) where
 
 -- ---- the rays of a vertex
 
--- the vector of a side, or (0,0) where there is none
-abbrev vector_or : Option Side → PlaneVector
-vector_or None = vector_zero
-vector_or (Some side) = side.vector
-
 -- the ray of a corner: the vector of the side that begins there
 abbrev ray : GluedPolygons → Corner → PlaneVector
-ray s c = vector_or (at_side s.polygons c)
+ray s c = vector_of s.polygons c
 
 ahead-next : (polygons : List (List Side)) (i : ℕ) (c : Corner) → ahead polygons (suc i) c ≡ next polygons (ahead polygons i c)
 ahead-next polygons i c = iterate_after (next polygons) i c
 
-module _ (s : GluedPolygons) (surface : IsSurface s) where
+module _ (s : GluedPolygons) (surface : IsTranslationSurface s) where
   ray_raised : (c : Corner) → HasSide s.polygons c → is_raised s.d (ray s c) ≡ is_ray_raised s c
   ray_raised c h = let r = rays s surface c h in ap (λ o. is_raised s.d (vector_or o)) r.begins ∙ sym (ap (raised_or s.d) r.begins)
 
-  ray_left : (c : Corner) → HasSide s.polygons c → IsPositive s.d (cross s.d (ray s c) (ray s (next s.polygons c)))
-  ray_left c h =
+  not_own : (b : Bool) → not b ≡ b → ⊥
+  not_own true e = cc
+  not_own false e = cc
+
+  -- where a ray and the next one are both raised, or neither is, the corner isn't straight, and the next ray is left of the first
+  ray_left : (c : Corner) → HasSide s.polygons c → is_ray_raised s (next s.polygons c) ≡ is_ray_raised s c → IsPositive s.d (cross s.d (ray s c) (ray s (next s.polygons c)))
+  ray_left c h same =
       let r = rays s surface c h in
       subst (λ o. IsPositive s.d (cross s.d (vector_or o) (ray s (next s.polygons c)))) (sym r.begins)
       (subst (λ o. IsPositive s.d (cross s.d r.after.vector (vector_or o))) (sym (next_ray s surface c h r))
-      (directions.positive_by_plane (field_order surface.radicand) [] (r.before.vector ∷ r.after.vector ∷ []) (λ b a. cross_over E a (neg_vector E b) ≐ cross_over E b a) refl r.convex))
+      (directions.positive_by_plane (field_order surface.radicand) [] (r.before.vector ∷ r.after.vector ∷ []) (λ b a. cross_over E a (neg_vector E b) ≐ cross_over E b a) refl
+      (elim r.bends [
+        | inside p ↦ p
+        | at_start along ↦ absurd (not_own (is_raised s.d r.before.vector)
+            (sym (raised-next s surface c h r) ∙ same ∙ raised-here s surface c h r ∙ raised-along surface.radicand r.before.vector r.after.vector along))
+      ])))
 
   module _ (c : Corner) (h : HasSide s.polygons c) (none : (e : Corner) → AreOneVertex s.polygons c e → ¬ HoldsEast s e) where
     -- the i-th corner after c
@@ -127,26 +135,32 @@ module _ (s : GluedPolygons) (surface : IsSurface s) where
       | inr f ↦ f
     ]
 
-    left_at : (i : ℕ) → IsPositive s.d (cross s.d (ray s (at i)) (ray s (at (suc i))))
-    left_at i = subst (λ e. IsPositive s.d (cross s.d (ray s (at i)) (ray s e))) (sym (ahead-next s.polygons i c)) (ray_left (at i) (has i))
+    left_at : (i : ℕ) → is_ray_raised s (at (suc i)) ≡ is_ray_raised s (at i) → IsPositive s.d (cross s.d (ray s (at i)) (ray s (at (suc i))))
+    left_at i same =
+        subst (λ e. IsPositive s.d (cross s.d (ray s (at i)) (ray s e))) (sym (ahead-next s.polygons i c))
+        (ray_left (at i) (has i) (ap (is_ray_raised s) (sym (ahead-next s.polygons i c)) ∙ same))
 
     module _ (m : ℕ) (back : at (suc m) ≡ c) where
       around_raised : is_ray_raised s c ≡ true → ⊥
       around_raised e =
-          let raised : (i : ℕ) → i ≤ suc m → is_raised s.d (ray s (at i)) ≡ true =
-          λ i l. ray_raised (at i) (has i) ∙ raised_down (suc m - i) i (let same : suc m ≡ suc m - i + i = omega arith in subst (λ n. is_ray_raised s (at n) ≡ true) same (ap (is_ray_raised s) back ∙ e)) in
+          let up : (i : ℕ) → i ≤ suc m → is_ray_raised s (at i) ≡ true =
+          λ i l. raised_down (suc m - i) i (let same : suc m ≡ suc m - i + i = omega arith in subst (λ n. is_ray_raised s (at n) ≡ true) same (ap (is_ray_raised s) back ∙ e)) in
+          let raised : (i : ℕ) → i ≤ suc m → is_raised s.d (ray s (at i)) ≡ true = λ i l. ray_raised (at i) (has i) ∙ up i l in
+          let left : (i : ℕ) → i ≤ m → IsPositive s.d (cross s.d (ray s (at i)) (ray s (at (suc i)))) = λ i l. left_at i (up (suc i) (omega arith) ∙ sym (up i (omega arith))) in
           let inner : (i : ℕ) → i ≤ m → IsPositive s.d (cross s.d east (ray s (at i))) =
-          λ i l. left_of_east surface.radicand (ray s (at i)) (above surface.radicand (ray s (at i)) (ray s (at (suc i))) (left_at i) (raised i (omega arith)) (raised (suc i) (omega arith))) in
+          λ i l. left_of_east surface.radicand (ray s (at i)) (above surface.radicand (ray s (at i)) (ray s (at (suc i))) (left i l) (raised i (omega arith)) (raised (suc i) (omega arith))) in
           never_back surface.radicand east (λ i. ray s (at i)) m
           (λ i l. elim (cases_eq i (suc m)) [ inl f ↦ subst (λ e. IsPositive s.d (cross s.d east (ray s e))) (sym (ap at f ∙ back)) (inner 0 (omega arith)) | inr n ↦ inner i (omega arith) ])
-          (λ i l. left_at i) (ap (ray s) back)
+          left (ap (ray s) back)
 
       around_lowered : is_ray_raised s c ≡ false → ⊥
       around_lowered e =
-          let lowered : (i : ℕ) → is_raised s.d (ray s (at i)) ≡ false = λ i. ray_raised (at i) (has i) ∙ lowered_after i e in
+          let down : (i : ℕ) → is_ray_raised s (at i) ≡ false = λ i. lowered_after i e in
+          let lowered : (i : ℕ) → is_raised s.d (ray s (at i)) ≡ false = λ i. ray_raised (at i) (has i) ∙ down i in
+          let left : (i : ℕ) → IsPositive s.d (cross s.d (ray s (at i)) (ray s (at (suc i)))) = λ i. left_at i (down (suc i) ∙ sym (down i)) in
           never_back surface.radicand (vector_neg east) (λ i. ray s (at i)) m
-          (λ i l. left_of_west surface.radicand (ray s (at i)) (below surface.radicand (ray s (at i)) (ray s (at (suc i))) (left_at i) (lowered i) (lowered (suc i))))
-          (λ i l. left_at i) (ap (ray s) back)
+          (λ i l. left_of_west surface.radicand (ray s (at i)) (below surface.radicand (ray s (at i)) (ray s (at (suc i))) (left i) (lowered i) (lowered (suc i))))
+          (λ i l. left i) (ap (ray s) back)
 
   -- a cone number is at least 1
   pub cone_number_positive : (c : Corner) (k : ℕ) → HasSide s.polygons c → IsConeNumber s c k → 1 ≤ k

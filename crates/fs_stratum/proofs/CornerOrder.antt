@@ -8,7 +8,7 @@ use Rattle.std.specs.declared.cmp.Ordering.TheVariants.{Less, Equal, Greater}
 use Rattle.fs_plane.specs.declared.corners.Corner.{Corner}
 use Rattle.fs_gluing.specs.Gluing.{corner_cmp}
 use Rattle.fs_gluing.proofs.Base.Equality.{corner_eq}
-use Rattle.fs_stratum.proofs.AllSides.{corner}
+use Rattle.fs_gluing.proofs.Sides.AllSides.{corner}
 
 wrong_equal : Equal ≡ Less → ⊥
 wrong_equal e = cc

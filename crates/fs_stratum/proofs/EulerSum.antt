@@ -4,11 +4,11 @@ use Rattle.std.proofs.lemmas.List.Sums.{sum_by-cons}
 use Rattle.std.specs.List.{AllByRecursion}
 use Rattle.fs_lists.proofs.Counts.{tally}
 use Rattle.fs_gluing.specs.Polygons.{all_sides}
-use Rattle.fs_gluing.specs.Surface.{GluedPolygons, IsSurface}
+use Rattle.fs_gluing.specs.Surface.{GluedPolygons, IsTranslationSurface}
 use Rattle.fs_gluing.specs.Vertices.{HoldsEast, IsCount}
 use Rattle.fs_stratum.specs.declared.cones.Cone.{Cone}
 use Rattle.fs_stratum.specs.VertexList.{HasGenus}
-use Rattle.fs_stratum.proofs.AllSides.{length-all_sides}
+use Rattle.fs_gluing.proofs.Sides.AllSides.{length-all_sides}
 use Rattle.fs_stratum.proofs.HeldCorners.{low_at}
 use Rattle.fs_stratum.proofs.RaisedSides.{low-half, held-half}
 
@@ -28,7 +28,7 @@ abbrev pub HasEvenSum : GluedPolygons → List Cone → Type 0
 HasEvenSum s cones = (m : ℕ) × (length s.polygons + length cones + tally (low_at s.d s.polygons) (all_sides s.polygons) ≡ 2 * m)
 
 -- cone numbers above 0 whose sum is the count of held corners have a genus, where the sum of the three numbers is even
-pub has_genus : (s : GluedPolygons) → IsSurface s → (cones : List Cone) → AllByRecursion (λ cone. 1 ≤ cone.k) cones → IsCount (HoldsEast s) (all_sides s.polygons) (sum_by (λ (cone : Cone). cone.k) cones)
+pub has_genus : (s : GluedPolygons) → IsTranslationSurface s → (cones : List Cone) → AllByRecursion (λ cone. 1 ≤ cone.k) cones → IsCount (HoldsEast s) (all_sides s.polygons) (sum_by (λ (cone : Cone). cone.k) cones)
     → HasEvenSum s cones → (g : ℕ) × HasGenus s cones g
 has_genus s surface cones positive total even =
     let r = genus_from (length cones) (sum_by (λ (cone : Cone). cone.k) cones) (length s.polygons) (tally (low_at s.d s.polygons) (all_sides s.polygons)) (sum_by length s.polygons) even.0

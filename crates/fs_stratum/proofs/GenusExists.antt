@@ -6,18 +6,18 @@ use Rattle.fs_lists.specs.Members.{IsIn}
 use Rattle.fs_lists.proofs.Members.{in_of_contains, in_map, All-member}
 use Rattle.fs_plane.specs.declared.corners.Corner.{Corner}
 use Rattle.fs_gluing.specs.Polygons.{all_sides}
-use Rattle.fs_gluing.specs.Surface.{GluedPolygons, IsSurface}
+use Rattle.fs_gluing.specs.Surface.{GluedPolygons, IsTranslationSurface}
 use Rattle.fs_gluing.specs.Vertices.{AreOneVertex, HoldsEast, IsCount}
 use Rattle.fs_stratum.specs.declared.cones.Cone.{Cone}
 use Rattle.fs_stratum.specs.VertexList.{IsVertex, AreVertices, AreAscending, HasGenus}
-use Rattle.fs_stratum.proofs.AllSides.{all_sides_in}
-use Rattle.fs_stratum.proofs.VertexOrbits.{one_vertex_trans, one_vertex_comm}
+use Rattle.fs_gluing.proofs.Sides.AllSides.{all_sides_in}
+use Rattle.fs_gluing.proofs.Sides.VertexOrbits.{one_vertex_trans, one_vertex_comm}
 use Rattle.fs_stratum.proofs.CornerCounts.{count_same, count_none, count_join}
 use Rattle.fs_stratum.proofs.ConeNumberPositive.{cone_number_positive}
 use Rattle.fs_stratum.proofs.Parity.{firsts, ascending_tail, ascending_less, has_even_sum}
 use Rattle.fs_stratum.proofs.EulerSum.{has_genus}
 
-module _ (s : GluedPolygons) (surface : IsSurface s) where
+module _ (s : GluedPolygons) (surface : IsTranslationSurface s) where
   all_positive : (cones : List Cone) → AllByRecursion (IsVertex s) cones → AllByRecursion (λ cone. 1 ≤ cone.k) cones
   all_positive [] all = tt
   all_positive (x ∷ cones) all = (cone_number_positive s surface x.first x.k all.0.there all.0.number, all_positive cones all.1)

@@ -1,11 +1,9 @@
 -- The proofs of fs_stratum.
 pub mod AxisSigns
 pub mod SectorOfEast
-pub mod AllSides
 pub mod CornerOrder
-pub mod VertexOrbits
 pub mod CornerCounts
-pub mod CornerRays
+pub mod RaisedRays
 pub mod ConeNumberPositive
 pub mod VertexMarks
 pub mod MarkRows

@@ -17,7 +17,7 @@ use Rattle.fs_plane.specs.declared.corners.Corner.{Corner}
 use Rattle.fs_gluing.specs.declared.surfaces.Side.{Side}
 use Rattle.fs_gluing.specs.Gluing.{corner_cmp}
 use Rattle.fs_gluing.specs.Polygons.{at_side, HasSide, all_sides}
-use Rattle.fs_gluing.specs.Surface.{GluedPolygons, IsSurface, IsPolygon, side_vectors}
+use Rattle.fs_gluing.specs.Surface.{GluedPolygons, IsTranslationSurface, IsPolygon, side_vectors}
 use Rattle.fs_gluing.specs.NextCorner.{IsNextCorner, side_before, side_count}
 use Rattle.fs_gluing.specs.Vertices.{AreOneVertex}
 use Rattle.fs_gluing.proofs.SurfaceCalls.NextCorner.{has_before, in_polygon, next_corner_one_to_one, before, before_suc}
@@ -25,11 +25,12 @@ use Rattle.fs_gluing.proofs.Base.Equality.{corner_eq, same_corner}
 use Rattle.fs_stratum.specs.declared.cones.Cone.{Cone}
 use Rattle.fs_stratum.specs.VertexList.{IsVertex, AreVertices, AreAscending}
 use Rattle.fs_stratum.proofs.CornerOrder.{less_trans}
-use Rattle.fs_stratum.proofs.AllSides.{corner, in_all_sides, all_sides_in, all_sides_distinct}
-use Rattle.fs_stratum.proofs.VertexOrbits.{next, partner_or, is_next_corner, leads_of, one_vertex_of, one_vertex_comm}
+use Rattle.fs_gluing.proofs.Sides.AllSides.{corner, in_all_sides, all_sides_in, all_sides_distinct}
+use Rattle.fs_gluing.proofs.Sides.PartnerSides.{partner, partner_or, pairs}
+use Rattle.fs_gluing.proofs.Sides.VertexOrbits.{next, is_next_corner, leads_of, one_vertex_of, one_vertex_comm}
 use Rattle.fs_stratum.proofs.VerticesFound.{has_in_row}
 use Rattle.fs_stratum.proofs.HeldCorners.{low_at}
-use Rattle.fs_stratum.proofs.RaisedSides.{partner, pairs, low-half}
+use Rattle.fs_stratum.proofs.RaisedSides.{low-half}
 use Rattle.fs_stratum.proofs.EulerSum.{HasEvenSum}
 
 -- ---- least corners
@@ -51,7 +52,7 @@ ascending_less x (y ∷ rest) a e h = elim h [
   | inr k ↦ less_trans x.first y.first e a.0 (ascending_less y rest a.1 e k)
 ]
 
-module _ (s : GluedPolygons) (surface : IsSurface s) where
+module _ (s : GluedPolygons) (surface : IsTranslationSurface s) where
   cone_of : (cones : List Cone) → AllByRecursion (IsVertex s) cones → (e : Corner) → IsIn e (firsts cones) → (cone : Cone) × IsVertex s cone × (e ≡ cone.first)
   cone_of cones all e i = let r = in_map_cases (λ (cone : Cone). cone.first) e cones i in (r.0, All-member (IsVertex s) cones r.0 all r.1, r.2)
 
@@ -93,14 +94,14 @@ module _ (s : GluedPolygons) (surface : IsSurface s) where
       inside = λ x i. in_all_sides s.polygons (side_before s.polygons x) (has_before s.polygons x (all_sides_in s.polygons x i));
       one_to_one = λ x y i j e. before_one_to_one x y (all_sides_in s.polygons x i) (all_sides_in s.polygons y j) e;
     };
-    pairs = pairs s surface;
+    pairs = pairs s.polygons surface.glued;
     followed = λ x i. partner-same x (side_before s.polygons x) (at_side s.polygons (side_before s.polygons x)) (has_before s.polygons x (all_sides_in s.polygons x i));
   }
 
   head_has : (i : ℕ) → i < length s.polygons → HasSide s.polygons (corner i 0)
   head_has i l =
       let r = value_of (slice_get s.polygons i) (some_of_inside s.polygons i l) in
-      let three = (All-slice_get (λ polygon. IsPolygon s.d (side_vectors polygon)) s.polygons i r.value surface.each r.is).three in
+      let three = (All-slice_get (λ polygon. IsPolygon s.straight s.d (side_vectors polygon)) s.polygons i r.value surface.each r.is).three in
       let long = length-map r.value (λ (side : Side). side.vector) in
       has_in_row s i 0 (length r.value) l (subst (λ o. IfSome o (λ (polygon : List Side). length r.value ≡ length polygon)) (sym r.is) refl) (omega arith)
 

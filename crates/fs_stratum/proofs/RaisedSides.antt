@@ -1,23 +1,19 @@
 -- Half of the sides of a surface are raised, since partners are opposite.
-use Rattle.std.proofs.Common.{◌≡◌, ◌≢◌, ℕ, ◌+◌, not, Some, List, length, sym, ap, ◌∙◌, refl, subst, Bool, arith}
-use Rattle.std.specs.Option.{IsSome}
+use Rattle.std.proofs.Common.{◌≡◌, ℕ, ◌+◌, not, Some, List, length, sym, ap, ◌∙◌, Bool, arith}
 use Rattle.std.proofs.Math.Bool.{not-not}
 use Rattle.fs_lists.specs.Members.{IsIn, IsDistinct}
 use Rattle.fs_lists.proofs.Counts.{tally, tally-at_most, tally-not}
-use Rattle.fs_quadratic.proofs.Laws.{field_order}
 use Rattle.fs_cycles.specs.Cycles.{Pairs}
 use Rattle.fs_cycles.proofs.Iterates.{permutes_undone}
 use Rattle.fs_plane.specs.declared.corners.Corner.{Corner}
-use Rattle.fs_plane.specs.Vector.{vector_neg}
-use Rattle.fs_gluing.specs.declared.surfaces.Side.{Side}
-use Rattle.fs_gluing.specs.Polygons.{at_side, HasSide, all_sides}
-use Rattle.fs_gluing.specs.Surface.{GluedPolygons, IsSurface, IsGlued}
+use Rattle.fs_gluing.specs.Polygons.{HasSide, all_sides}
+use Rattle.fs_gluing.specs.Surface.{GluedPolygons, IsTranslationSurface}
 use Rattle.fs_gluing.specs.Vertices.{HoldsEast, IsCount}
-use Rattle.fs_stratum.proofs.AllSides.{in_all_sides, all_sides_in, all_sides_distinct}
-use Rattle.fs_stratum.proofs.AxisSigns as axis
-use Rattle.fs_stratum.proofs.SectorOfEast.{raised-neg}
-use Rattle.fs_stratum.proofs.VertexOrbits.{partner_or}
-use Rattle.fs_stratum.proofs.CornerRays.{HasRays, rays, rays_from_holds, holds_from_rays, held-rays}
+use Rattle.fs_gluing.proofs.Sides.AllSides.{all_sides_in, all_sides_distinct}
+use Rattle.fs_gluing.proofs.Sides.PartnerSides.{partner, at_partner, pairs}
+use Rattle.fs_gluing.proofs.Sides.CornerRays.{HasRays, rays}
+use Rattle.fs_stratum.proofs.SectorOfEast.{raised-neg, after-ne-zero}
+use Rattle.fs_stratum.proofs.RaisedRays.{rays_from_holds, holds_from_rays, held-rays}
 use Rattle.fs_stratum.proofs.HeldCorners.{held_or, held_at, low_or, low_at, held-all}
 use Rattle.fs_stratum.proofs.CornerCounts.{count-tally}
 
@@ -30,48 +26,17 @@ tally-half q {f} xs distinct pairs flips =
     let sum = tally-not q xs in
     omega arith
 
--- the side that a side is glued to
-abbrev pub partner : List (List Side) → Corner → Corner
-partner polygons c = partner_or c (at_side polygons c)
-
-module _ (s : GluedPolygons) (surface : IsSurface s) where
-  module _ (c : Corner) (h : HasSide s.polygons c) where
-    glued_at : (r : HasRays s c) → IsGlued s.polygons c r.after
-    glued_at r = surface.glued c r.after r.begins
-
-    partner-is : (r : HasRays s c) → partner s.polygons c ≡ r.after.partner
-    partner-is r = ap (partner_or c) r.begins
-
-    at_partner : (r : HasRays s c) → at_side s.polygons (partner s.polygons c) ≡ Some (record { vector = vector_neg r.after.vector; partner = c })
-    at_partner r = ap (at_side s.polygons) (partner-is r) ∙ (glued_at r).back
-
-    has_partner : HasSide s.polygons (partner s.polygons c)
-    has_partner = let r = rays s surface c h in subst IsSome (sym (at_partner r)) refl
-
-    partner-partner : partner s.polygons (partner s.polygons c) ≡ c
-    partner-partner = let r = rays s surface c h in ap (partner_or (partner s.polygons c)) (at_partner r)
-
-    partner-moved : partner s.polygons c ≢ c
-    partner-moved e = let r = rays s surface c h in (glued_at r).other (sym (partner-is r) ∙ e)
-
-    low-partner : low_at s.d s.polygons (partner s.polygons c) ≡ not (low_at s.d s.polygons c)
-    low-partner =
-        let r = rays s surface c h in
-        ap (low_or s.d) (at_partner r)
-        ∙ ap not (raised-neg surface.radicand r.after.vector (λ z. axis.after-ne-zero (field_order surface.radicand) r.before.vector r.after.vector r.convex z.0 z.1))
-        ∙ sym (ap (λ o. not (low_or s.d o)) r.begins)
-
-  -- partners are pairs
-  pub pairs : Pairs (partner s.polygons) (all_sides s.polygons)
-  pairs = record {
-    inside = λ x i. in_all_sides s.polygons (partner s.polygons x) (has_partner x (all_sides_in s.polygons x i));
-    back = λ x i. partner-partner x (all_sides_in s.polygons x i);
-    moved = λ x i. partner-moved x (all_sides_in s.polygons x i);
-  }
+module _ (s : GluedPolygons) (surface : IsTranslationSurface s) where
+  low-partner : (c : Corner) → HasSide s.polygons c → low_at s.d s.polygons (partner s.polygons c) ≡ not (low_at s.d s.polygons c)
+  low-partner c h =
+      let r = rays s surface c h in
+      ap (low_or s.d) (at_partner s.polygons surface.glued c r.after r.begins)
+      ∙ ap not (raised-neg surface.radicand r.after.vector (after-ne-zero surface.radicand r.bends))
+      ∙ sym (ap (λ o. not (low_or s.d o)) r.begins)
 
   -- half of the sides aren't raised
   pub low-half : tally (low_at s.d s.polygons) (all_sides s.polygons) + tally (low_at s.d s.polygons) (all_sides s.polygons) ≡ length (all_sides s.polygons)
-  low-half = tally-half (low_at s.d s.polygons) (all_sides s.polygons) (all_sides_distinct s.polygons) pairs (λ x i. low-partner x (all_sides_in s.polygons x i))
+  low-half = tally-half (low_at s.d s.polygons) (all_sides s.polygons) (all_sides_distinct s.polygons) (pairs s.polygons surface.glued) (λ x i. low-partner x (all_sides_in s.polygons x i))
 
   -- the test at a corner, by the two sides there
   test-at : (c : Corner) (h : HasSide s.polygons c) (r : HasRays s c) → held_at s.d s.polygons c ≡ held_or s.d (Some r.before) (Some r.after)

@@ -9,13 +9,13 @@ use Rattle.fs_lists.proofs.Members.{in_append_cases}
 use Rattle.fs_plane.specs.declared.corners.Corner.{Corner}
 use Rattle.fs_gluing.specs.Gluing.{corner_cmp, sides_between}
 use Rattle.fs_gluing.specs.Polygons.{HasSide, sides_from, all_sides}
-use Rattle.fs_gluing.specs.Surface.{GluedPolygons, IsSurface}
+use Rattle.fs_gluing.specs.Surface.{GluedPolygons, IsTranslationSurface}
 use Rattle.fs_gluing.specs.Vertices.{AreOneVertex, HoldsEast, IsCount, IsConeNumber}
 use Rattle.fs_stratum.specs.declared.cones.Cone.{Cone}
 use Rattle.fs_stratum.specs.VertexList.{IsVertex, AreVertices, AreAscending}
 use Rattle.fs_stratum.proofs.CornerOrder.{less_of, not_less_itself, not_less_both_ways}
-use Rattle.fs_stratum.proofs.AllSides.{corner, row_in, sides_from_in, in_all_sides, all_sides_in}
-use Rattle.fs_stratum.proofs.VertexOrbits.{has_one_vertex, one_vertex_self, one_vertex_trans, one_vertex_comm}
+use Rattle.fs_gluing.proofs.Sides.AllSides.{corner, row_in, sides_from_in, in_all_sides, all_sides_in}
+use Rattle.fs_gluing.proofs.Sides.VertexOrbits.{has_one_vertex, one_vertex_self, one_vertex_trans, one_vertex_comm}
 use Rattle.fs_stratum.proofs.VerticesFound.{ascending_push, IsListed}
 
 -- ---- what isn't refuted
@@ -63,7 +63,7 @@ sides_from_sorted i (polygon ∷ polygons) =
 
 -- ---- corner after corner
 
-module _ (s : GluedPolygons) (surface : IsSurface s) where
+module _ (s : GluedPolygons) (surface : IsTranslationSurface s) where
   -- the cones are the vertices of the corners that aren't in the rest
   record AreBefore (rest : List Corner) (cones : List Cone) : Type 0 where
     each : AllByRecursion (IsVertex s) cones

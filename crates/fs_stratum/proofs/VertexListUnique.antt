@@ -5,12 +5,12 @@ use Rattle.fs_lists.specs.Members.{IsIn}
 use Rattle.fs_lists.proofs.Members.{in_of_contains, in_map, All-member}
 use Rattle.fs_plane.specs.declared.corners.Corner.{Corner}
 use Rattle.fs_gluing.specs.Gluing.{corner_cmp}
-use Rattle.fs_gluing.specs.Surface.{GluedPolygons, IsSurface}
+use Rattle.fs_gluing.specs.Surface.{GluedPolygons, IsTranslationSurface}
 use Rattle.fs_gluing.specs.Vertices.{AreOneVertex, IsCount, IsConeNumber}
 use Rattle.fs_stratum.specs.declared.cones.Cone.{Cone}
 use Rattle.fs_stratum.specs.VertexList.{IsVertex, AreVertices, AreAscending, IsGenus}
 use Rattle.fs_stratum.proofs.CornerOrder.{not_less_both_ways, corner_cases, not_less_itself}
-use Rattle.fs_stratum.proofs.VertexOrbits.{one_vertex_comm}
+use Rattle.fs_gluing.proofs.Sides.VertexOrbits.{one_vertex_comm}
 use Rattle.fs_stratum.proofs.Parity.{firsts, ascending_tail, ascending_less}
 
 -- ---- a count is unique
@@ -61,7 +61,7 @@ ascending_unique (x ∷ xs) (y ∷ ys) a b f g =
 
 -- ---- the vertices of a surface
 
-module _ (s : GluedPolygons) (surface : IsSurface s) where
+module _ (s : GluedPolygons) (surface : IsTranslationSurface s) where
   -- a vertex has one least corner and one cone number
   vertex_unique : (x y : Cone) → IsVertex s x → IsVertex s y → AreOneVertex s.polygons x.first y.first → x ≡ y
   vertex_unique x y p q o =
@@ -83,7 +83,7 @@ module _ (s : GluedPolygons) (surface : IsSurface s) where
       let j = in_of_contains found.0 ys found.1 in
       subst (λ (x : Cone). IsIn x ys) (vertex_unique found.0 c (All-member (IsVertex s) ys found.0 b.each j) p found.2) j
 
-pub vertex_list_unique : (s : GluedPolygons) → IsSurface s → (xs ys : List Cone) → AreVertices s xs → AreVertices s ys → xs ≡ ys
+pub vertex_list_unique : (s : GluedPolygons) → IsTranslationSurface s → (xs ys : List Cone) → AreVertices s xs → AreVertices s ys → xs ≡ ys
 vertex_list_unique s surface xs ys a b = ascending_unique xs ys a.ascending b.ascending (listed_too s surface xs ys a b) (listed_too s surface ys xs b a)
 
 pub genus_unique : (s : GluedPolygons) (vertices g h : ℕ) → IsGenus s vertices g → IsGenus s vertices h → g ≡ h

@@ -1,5 +1,5 @@
 -- The corners of a vertex are marked one after another, from a first one on.
-use Rattle.std.proofs.Common.{◌≡◌, ◌⊎◌, inl, inr, ℕ, zero, suc, ◌<◌, ◌≤◌, Bool, true, false, not, ◌&&◌, List, sym, ap, ◌∙◌, refl, subst, arith}
+use Rattle.std.proofs.Common.{◌≡◌, ◌⊎◌, inl, inr, ℕ, zero, suc, ◌<◌, ◌≤◌, Bool, true, false, not, ◌&&◌, List, length, sum_by, sym, ap, ◌∙◌, refl, subst, arith}
 use Rattle.std.proofs.lemmas.Bool.{cases_Bool}
 use Rattle.std.specs.Bool.{IsTrue}
 use Rattle.std.specs.Option.{IfSome}
@@ -9,14 +9,14 @@ use Rattle.fs_plane.specs.Vector.{is_raised, PlaneVector}
 use Rattle.fs_gluing.specs.Limits.{most_sides}
 use Rattle.fs_gluing.specs.declared.surfaces.Side.{Side}
 use Rattle.fs_gluing.specs.Polygons.{at_side, HasSide, all_sides}
-use Rattle.fs_gluing.specs.Surface.{GluedPolygons, IsSurface}
+use Rattle.fs_gluing.specs.Surface.{GluedPolygons, IsTranslationSurface}
 use Rattle.fs_gluing.specs.NextCorner.{IsNextCorner}
 use Rattle.fs_gluing.specs.Vertices.{IsNthNextCorner, AreOneVertex, HoldsEast, IsCount, IsConeNumber}
 use Rattle.fs_gluing.proofs.Base.Equality.{same_corner}
 use Rattle.fs_stratum.specs.CornerMarks.{is_marked, Covers, MarksCorner, MarksVertex}
-use Rattle.fs_stratum.proofs.AllSides.{in_all_sides, all_sides_distinct, length-all_sides}
-use Rattle.fs_stratum.proofs.VertexOrbits.{next, next_is, has_next, has_one_vertex, one_vertex_self, one_vertex_next}
-use Rattle.fs_stratum.proofs.CornerRays.{is_ray_raised, ray_read, holds_from_rays, rays_from_holds}
+use Rattle.fs_gluing.proofs.Sides.AllSides.{in_all_sides, all_sides_distinct, length-all_sides}
+use Rattle.fs_gluing.proofs.Sides.VertexOrbits.{next, next_is, has_next, has_one_vertex, one_vertex_self, one_vertex_next}
+use Rattle.fs_stratum.proofs.RaisedRays.{is_ray_raised, ray_read, holds_from_rays, rays_from_holds}
 use Rattle.fs_stratum.proofs.CornerCounts.{count_same, count_more, count_none, count_at_most}
 
 -- ---- one more mark
@@ -75,17 +75,16 @@ vertex_marks_none s first old fresh covers = record {
   count = count_none _ (all_sides s.polygons) (λ e i p. not_both p.0.0 (fresh e p.0.1));
 }
 
-module _ {s : GluedPolygons} {first : Corner} {old : List (List Bool)} (surface : IsSurface s) (has : HasSide s.polygons first) where
+module _ {s : GluedPolygons} {first : Corner} {old : List (List Bool)} (surface : IsTranslationSurface s) (has : HasSide s.polygons first) where
   -- corner c exists
   pub has_corner : {now : List (List Bool)} {c : Corner} {k : ℕ} → MarksVertexUpTo s first old now c k → HasSide s.polygons c
   has_corner {now} {c} {k} r = has_one_vertex s.polygons surface.glued first c has r.here
 
   -- the count is at most 1,024
-  pub count_few : {now : List (List Bool)} {c : Corner} {k : ℕ} → MarksVertexUpTo s first old now c k → k ≤ most_sides
-  count_few {now} {c} {k} r =
+  pub count_few : {now : List (List Bool)} {c : Corner} {k : ℕ} → sum_by length s.polygons ≤ most_sides → MarksVertexUpTo s first old now c k → k ≤ most_sides
+  count_few {now} {c} {k} few r =
       let l = count_at_most _ (all_sides s.polygons) k r.count in
       let e = length-all_sides s.polygons in
-      let f = surface.sides in
       omega arith
 
   -- corner c becomes marked, and its next corner follows
@@ -158,7 +157,7 @@ second_true : (a b : Bool) → not a && b ≡ true → b ≡ false → ⊥
 second_true true b h e = cc
 second_true false b h e = not_both h e
 
-module _ (s : GluedPolygons) (surface : IsSurface s) (c e : Corner) (has : HasSide s.polygons c) (there : HasSide s.polygons e) (t : IsNextCorner s.polygons c e) (d : ℕ) (field : d ≡ s.d) where
+module _ (s : GluedPolygons) (surface : IsTranslationSurface s) (c e : Corner) (has : HasSide s.polygons c) (there : HasSide s.polygons e) (t : IsNextCorner s.polygons c e) (d : ℕ) (field : d ≡ s.d) where
   read : (x : Corner) (v : PlaneVector) (a : Bool) → HasSide s.polygons x → IfSome (at_side s.polygons x) (λ side. v ≡ side.vector) → a ≡ is_raised d v → a ≡ is_ray_raised s x
   read x v a h side is = is ∙ ap (λ n. is_raised n v) field ∙ ray_read s x v h side
 

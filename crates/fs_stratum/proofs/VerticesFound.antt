@@ -13,7 +13,7 @@ use Rattle.fs_plane.specs.declared.corners.Corner.{Corner}
 use Rattle.fs_gluing.specs.declared.surfaces.Side.{Side}
 use Rattle.fs_gluing.specs.Gluing.{corner_cmp}
 use Rattle.fs_gluing.specs.Polygons.{HasSide}
-use Rattle.fs_gluing.specs.Surface.{GluedPolygons, IsSurface}
+use Rattle.fs_gluing.specs.Surface.{GluedPolygons, IsTranslationSurface}
 use Rattle.fs_gluing.specs.Vertices.{AreOneVertex, IsConeNumber}
 use Rattle.fs_gluing.proofs.SurfaceCalls.NextCorner.{in_polygon}
 use Rattle.fs_stratum.specs.declared.cones.Cone.{Cone}
@@ -21,8 +21,8 @@ use Rattle.fs_stratum.specs.VertexList.{IsVertex, AreAscending, AreVertices}
 use Rattle.fs_stratum.specs.CornerMarks.{is_marked, AreUnmarked, MarksVertex}
 use Rattle.fs_stratum.specs.VerticesFound.{AreFoundBefore}
 use Rattle.fs_stratum.proofs.CornerOrder.{less_of, of_less, to_next, here_next, next_cases, to_row}
-use Rattle.fs_stratum.proofs.AllSides.{corner}
-use Rattle.fs_stratum.proofs.VertexOrbits.{has_one_vertex, one_vertex_self, one_vertex_trans, one_vertex_comm}
+use Rattle.fs_gluing.proofs.Sides.AllSides.{corner}
+use Rattle.fs_gluing.proofs.Sides.VertexOrbits.{has_one_vertex, one_vertex_self, one_vertex_trans, one_vertex_comm}
 use Rattle.fs_stratum.proofs.VertexMarks.{not_both}
 
 -- ---- lists of vertices
@@ -100,7 +100,7 @@ module _ (s : GluedPolygons) where
   pub has_corner_in_row : {c : Corner} {i j n : ℕ} → c ≡ corner i j → i < length s.polygons → IfSome (slice_get s.polygons i) (λ polygon. n ≡ length polygon) → j < n → HasSide s.polygons c
   has_corner_in_row {c} {i} {j} {n} same l is m = subst (HasSide s.polygons) (sym same) (has_in_row i j n l is m)
 
-  module _ (surface : IsSurface s) where
+  module _ (surface : IsTranslationSurface s) where
     -- where a corner isn't marked, no corner of its vertex is
     pub fresh_of_unmarked : (c : Corner) (marks : List (List Bool)) (cones : List Cone) → HasSide s.polygons c → ((e : Corner) → (IsTrue (is_marked marks e) → IsListed cones e) × (IsListed cones e → IsTrue (is_marked marks e)))
         → is_marked marks c ≡ false → (e : Corner) → AreOneVertex s.polygons c e → is_marked marks e ≡ false

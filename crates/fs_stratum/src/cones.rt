@@ -3,7 +3,7 @@
 ghost use Rattle.std.specs.Prelude.{◌≡◌, ◌+◌, ◌<◌, ℕ, List, IfOk, OnOk, length, false};
 ghost use Rattle.fs_plane.specs.declared.corners.Corner.{Corner};
 ghost use Rattle.fs_gluing.specs.Polygons.{HasSide};
-ghost use Rattle.fs_gluing.specs.Surface.{GluedPolygons, IsSurface};
+ghost use Rattle.fs_gluing.specs.Surface.{GluedPolygons, IsSurface, IsTranslationSurface};
 ghost use Rattle.fs_gluing.specs.Vertices.{AreOneVertex, IsConeNumber};
 ghost use Rattle.fs_stratum.specs.VertexList.{AreVertices, HasGenus};
 ghost use Rattle.fs_stratum.specs.VerticesFound.{AreFoundBefore};
@@ -87,7 +87,7 @@ fn mark_vertex(surface: &Surface, first: Corner, marks: &mut CornerMarks) -> u32
 /// The genus of a surface with these vertices: 1 plus half the sum of k - 1.
 pub fn genus(cones: &[Cone]) -> u32
     requires { (s : GluedPolygons) × IsSurface s × AreVertices s cones.now }
-    ensures { (s : GluedPolygons) → IsSurface s → AreVertices s cones.now → HasGenus s cones.now result }
+    ensures { (s : GluedPolygons) → IsTranslationSurface s → AreVertices s cones.now → HasGenus s cones.now result }
 {
     let mut twice = 2;
     for cone in cones {

@@ -708,6 +708,7 @@ fn what_a_job_says(rt: HostRuntime) -> Result<(), Fail> {
     assert_eq!(rt; field.d(), 5);
     assert!(rt; commands.as_slice() == [Command::Check, Command::Check].as_slice());
     let Form::Polygons(shape) = form;
+    assert!(rt; !shape.straight);
     let polygons = shape.polygons.as_slice();
     assert_eq!(rt; polygons.len(), 2);
     assert_eq!(rt; polygons[1].len(), 0);

@@ -14,6 +14,8 @@ mod numbers;
 #[cfg(test)]
 mod spellings;
 #[cfg(test)]
+mod surfaces;
+#[cfg(test)]
 mod vectors;
 #[cfg(test)]
 mod widths;

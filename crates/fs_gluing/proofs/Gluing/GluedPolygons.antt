@@ -1,5 +1,5 @@
 -- The glued polygons: their sides, and that they are a surface.
-use Rattle.std.proofs.Common.{◌≡◌, ◌≢◌, inl, inr, ℕ, ◌+◌, ◌<◌, ◌≤◌, ℤ, pos, ◌<ℤ◌, Option, Some, None, List, [], ◌∷◌, ◌++◌, length, sum_by, sym, ap, ◌∙◌, refl, subst, map, unwrap_or, arith, suc, zero}
+use Rattle.std.proofs.Common.{◌≡◌, ◌≢◌, inl, inr, ℕ, Bool, ◌+◌, ◌<◌, ◌≤◌, ℤ, pos, ◌<ℤ◌, Option, Some, None, List, [], ◌∷◌, ◌++◌, length, sum_by, sym, ap, ◌∙◌, refl, subst, map, unwrap_or, arith, suc, zero}
 use Rattle.std.proofs.lemmas.List.Sums.{sum_by-cons}
 use Rattle.std.specs.Option.{IsSome, option_map, option_and_then}
 use Rattle.std.specs.List.{AllByRecursion, slice_get}
@@ -7,11 +7,11 @@ use Rattle.fs_lists.proofs.All.{All-suffix, All-prefix, All-of_map}
 use Rattle.fs_lists.proofs.Items.{value_of, comes_from}
 use Rattle.fs_quadratic.specs.Radicand.{IsRadicand}
 use Rattle.fs_plane.specs.declared.corners.Corner.{Corner}
-use Rattle.fs_plane.specs.Vector.{vector_neg, PlaneVector}
+use Rattle.fs_plane.specs.Vector.{vector_neg, IsAllowedCorner, PlaneVector}
 use Rattle.fs_gluing.specs.Limits.{most_polygons, most_sides}
 use Rattle.fs_gluing.specs.declared.shapes.Glue.{Glue}
 use Rattle.fs_gluing.specs.declared.surfaces.Side.{Side}
-use Rattle.fs_gluing.specs.Convex.{CornerSides, IsStrictlyConvex, corners_of}
+use Rattle.fs_gluing.specs.Convex.{CornerSides, corners_of}
 use Rattle.fs_gluing.specs.Polygons.{HasSide, at_side, all_sides, sides_from}
 use Rattle.fs_gluing.specs.Reached.{IsReached}
 use Rattle.fs_gluing.specs.Shape.{AreGlued}
@@ -54,29 +54,30 @@ rows_sum p i (polygon ∷ polygons) =
 
 -- ---- the polygons are closed and convex
 
-corners_convex : (d : ℕ) (polygon : List PlaneVector) (j : ℕ) (corners : List CornerSides) → AllByRecursion (PassesIn d polygon) (corner_tests j corners) → AllByRecursion (IsStrictlyConvex d) corners
-corners_convex d polygon j [] a = tt
-corners_convex d polygon j (corner ∷ corners) a = (a.1.1.1.0, corners_convex d polygon (j + 1) corners a.1.1.1.1)
+corners_convex : (straight : Bool) (d : ℕ) (polygon : List PlaneVector) (j : ℕ) (corners : List CornerSides) → AllByRecursion (PassesIn straight d polygon) (corner_tests j corners)
+    → AllByRecursion (λ corner. IsAllowedCorner straight d corner.before corner.after) corners
+corners_convex straight d polygon j [] a = tt
+corners_convex straight d polygon j (corner ∷ corners) a = (a.1.1.1.1.1.1.0, corners_convex straight d polygon (j + 1) corners a.1.1.1.1.1.1.1)
 
-is_polygon : (d : ℕ) (polygon : List PlaneVector) → AllByRecursion (PassesIn d polygon) (polygon_tests polygon) → IsPolygon d polygon
-is_polygon d polygon a =
-    let closing = All-suffix (PassesIn d polygon) (position_tests (length polygon)) (polygon_closes ∷ (corner_tests 0 (corners_of polygon) ++ turning_number_one ∷ [])) a.1 in
+is_polygon : (straight : Bool) (d : ℕ) (polygon : List PlaneVector) → AllByRecursion (PassesIn straight d polygon) (polygon_tests polygon) → IsPolygon straight d polygon
+is_polygon straight d polygon a =
+    let closing = All-suffix (PassesIn straight d polygon) (position_tests (length polygon)) (polygon_closes ∷ (corner_tests 0 (corners_of polygon) ++ turning_number_one ∷ [])) a.1 in
     record {
       three = a.0;
       closed = closing.0;
-      convex = corners_convex d polygon 0 (corners_of polygon) (All-prefix (PassesIn d polygon) (corner_tests 0 (corners_of polygon)) (turning_number_one ∷ []) closing.1);
-      turning_number = (All-suffix (PassesIn d polygon) (corner_tests 0 (corners_of polygon)) (turning_number_one ∷ []) closing.1).0;
+      convex = corners_convex straight d polygon 0 (corners_of polygon) (All-prefix (PassesIn straight d polygon) (corner_tests 0 (corners_of polygon)) (turning_number_one ∷ []) closing.1);
+      turning_number = (All-suffix (PassesIn straight d polygon) (corner_tests 0 (corners_of polygon)) (turning_number_one ∷ []) closing.1).0;
     }
 
-rows_each : (d : ℕ) (all : List (List PlaneVector)) (glues : List Glue) (p : Corner → Option Corner) (i : ℕ) (polygons : List (List PlaneVector)) → AllByRecursion (Passes d all glues) (tests_from i polygons)
-    → AllByRecursion (λ row. IsPolygon d (side_vectors row)) (glued_polygons p i polygons)
-rows_each d all glues p i [] a = tt
-rows_each d all glues p i (polygon ∷ polygons) a =
+rows_each : (straight : Bool) (d : ℕ) (all : List (List PlaneVector)) (glues : List Glue) (p : Corner → Option Corner) (i : ℕ) (polygons : List (List PlaneVector)) → AllByRecursion (Passes straight d all glues) (tests_from i polygons)
+    → AllByRecursion (λ row. IsPolygon straight d (side_vectors row)) (glued_polygons p i polygons)
+rows_each straight d all glues p i [] a = tt
+rows_each straight d all glues p i (polygon ∷ polygons) a =
     let here : List Test = map (of_polygon i polygon) (polygon_tests polygon) in
     let later : List Test = tests_from (i + 1) polygons in (
-      subst (IsPolygon d) (sym (row_vectors p i 0 polygon))
-          (is_polygon d polygon (All-of_map (of_polygon i polygon) (Passes d all glues) (polygon_tests polygon) (All-prefix (Passes d all glues) here later a))),
-      rows_each d all glues p (i + 1) polygons (All-suffix (Passes d all glues) here later a),
+      subst (IsPolygon straight d) (sym (row_vectors p i 0 polygon))
+          (is_polygon straight d polygon (All-of_map (of_polygon i polygon) (Passes straight d all glues) (polygon_tests polygon) (All-prefix (Passes straight d all glues) here later a))),
+      rows_each straight d all glues p (i + 1) polygons (All-suffix (Passes straight d all glues) here later a),
     )
 
 -- ---- the sides of the glued polygons
@@ -142,16 +143,16 @@ has_partner p polygons c a h e =
     subst (λ n. IsSome (p (record { polygon = n; side = c.side }))) same (rows_hold (λ c. IsSome (p c)) 0 polygons c.polygon c.side a h e)
 
 -- the polygons and the lines pass their tests, and p gives every side its partner
-pub record IsPaired (d : ℕ) (polygons : List (List PlaneVector)) (glues : List Glue) (p : Corner → Option Corner) : Type 0 where
-  pub each : AllByRecursion (Passes d polygons glues) (tests_from 0 polygons)
+pub record IsPaired (straight : Bool) (d : ℕ) (polygons : List (List PlaneVector)) (glues : List Glue) (p : Corner → Option Corner) : Type 0 where
+  pub each : AllByRecursion (Passes straight d polygons glues) (tests_from 0 polygons)
   pub lines : AllByRecursion (PassesLine polygons) (line_tests [] glues)
   pub partners : ArePartners glues p
   pub sides : AllByRecursion (λ c. IsSome (p c)) (all_sides polygons)
 
 -- where the lines are read from an equal list
-pub paired_by : (d : ℕ) (polygons : List (List PlaneVector)) (read glues : List Glue) (p : Corner → Option Corner) → read ≡ glues → ((gs : List Glue) → AllByRecursion (Passes d polygons gs) (tests_from 0 polygons))
-    → AllByRecursion (PassesLine polygons) (line_tests [] read) → ArePartners read p → AllByRecursion (λ c. IsSome (p c)) (all_sides polygons) → IsPaired d polygons glues p
-paired_by d polygons read glues p same each lines partners sides = record {
+pub paired_by : (straight : Bool) (d : ℕ) (polygons : List (List PlaneVector)) (read glues : List Glue) (p : Corner → Option Corner) → read ≡ glues → ((gs : List Glue) → AllByRecursion (Passes straight d polygons gs) (tests_from 0 polygons))
+    → AllByRecursion (PassesLine polygons) (line_tests [] read) → ArePartners read p → AllByRecursion (λ c. IsSome (p c)) (all_sides polygons) → IsPaired straight d polygons glues p
+paired_by straight d polygons read glues p same each lines partners sides = record {
   each = each glues;
   lines = subst (λ (gs : List Glue). AllByRecursion (PassesLine polygons) (line_tests [] gs)) same lines;
   partners = subst (λ (gs : List Glue). ArePartners gs p) same partners;
@@ -162,7 +163,7 @@ some_opposite : (v : PlaneVector) (o : Option PlaneVector) → AreOpposite (Some
 some_opposite v None h = absurd h
 some_opposite v (Some w) h = ap (λ x. Some x) h
 
-module _ (d : ℕ) (polygons : List (List PlaneVector)) (glues : List Glue) (p : Corner → Option Corner) (h : IsPaired d polygons glues p) where
+module _ (straight : Bool) (d : ℕ) (polygons : List (List PlaneVector)) (glues : List Glue) (p : Corner → Option Corner) (h : IsPaired straight d polygons glues p) where
   -- the glued polygons
   abbrev rows : List (List Side)
   rows = glued_polygons p 0 polygons
@@ -258,14 +259,16 @@ module _ (d : ℕ) (polygons : List (List PlaneVector)) (glues : List Glue) (p :
 
   -- the glued polygons are a surface where they are connected
   pub is_surface : (den : ℤ) → IsRadicand d → pos 0 <ℤ den → 0 < length polygons → length polygons ≤ most_polygons → sum_by length polygons ≤ most_sides
-      → ((k : ℕ) → k < length rows → IsReached (AreNeighbours rows) k) → IsSurface (record { d = d; den = den; polygons = rows })
+      → ((k : ℕ) → k < length rows → IsReached (AreNeighbours rows) k) → IsSurface (record { d = d; straight = straight; den = den; polygons = rows })
   is_surface den radicand positive some few sides connected = record {
-    radicand = radicand;
-    den = positive;
-    some_polygon = subst (λ n. 0 < n) (sym (rows_length p 0 polygons)) some;
+    surface = record {
+      radicand = radicand;
+      den = positive;
+      some_polygon = subst (λ n. 0 < n) (sym (rows_length p 0 polygons)) some;
+      each = rows_each straight d polygons glues p 0 polygons h.each;
+      glued = rows_are_glued;
+      connected = connected;
+    };
     polygons = subst (λ n. n ≤ most_polygons) (sym (rows_length p 0 polygons)) few;
     sides = subst (λ n. n ≤ most_sides) (sym (rows_sum p 0 polygons)) sides;
-    each = rows_each d polygons glues p 0 polygons h.each;
-    glued = rows_are_glued;
-    connected = connected;
   }

@@ -17,7 +17,7 @@ use Rattle.fs_gluing.specs.Limits.{most_polygons, most_sides}
 use Rattle.fs_gluing.specs.Positions.{all_positions}
 use Rattle.fs_gluing.specs.Polygons.{at_side, all_sides}
 use Rattle.fs_gluing.specs.Reached.{IsReached}
-use Rattle.fs_gluing.specs.Scaling.{PassesScale, scale_tests, common_den}
+use Rattle.fs_gluing.specs.Scaling.{PassesScale, scale_tests, common_den, IsLeastCommonMultiple}
 use Rattle.fs_gluing.specs.Shape.{IsWithinLimits, polygons_of, glued_sides, IsScaledVector}
 use Rattle.fs_gluing.specs.Surface.{GluedPolygons, side_vectors, AreNeighbours, IsGlued, IsSurface}
 use Rattle.fs_gluing.specs.FirstFault.{Passes, PassesOf, PassesLine, line_tests, of_scaling, of_line, side_glued, polygon_reached, Joins, tests_from, tests, tests_of, Test, stop_of, IsFirstFailure, IsBuildResult}
@@ -27,6 +27,7 @@ use Rattle.fs_gluing.proofs.Base.TestsInOrder.{first_stop_of_map, first_stop_of_
 use Rattle.fs_gluing.proofs.Polygon.PolygonsInTurn.{shape_count, shape_sides, short_polygons}
 use Rattle.fs_gluing.proofs.Scale.ScalingInTurn.{scale_stop}
 use Rattle.fs_gluing.proofs.Scale.ScaledVectors.{vectors_scaled}
+use Rattle.fs_gluing.proofs.Scale.CommonDenominator.{common_den_least}
 use Rattle.fs_gluing.proofs.Gluing.GluedPolygons.{IsPaired, rows_vectors, rows_length, rows_are_glued, neighbours_joined, joined_neighbours, lines_are_glued, is_surface}
 use Rattle.fs_gluing.proofs.Gluing.GlueLines.{line_stop}
 use Rattle.fs_gluing.proofs.Gluing.Partners.{listed_has_partner, listed_from_partner}
@@ -75,13 +76,13 @@ scaled_shape d shape den polygons limits passed denominator taken positive = rec
 pub record GluedShape (s : ScaledShape) : Type 0 where
   pub partner : Corner → Option Corner
   pub rows : List (List Side)
-  pub paired : IsPaired s.d s.polygons s.shape.glues partner
+  pub paired : IsPaired s.shape.straight s.d s.polygons s.shape.glues partner
   pub rows_are : rows ≡ glued_polygons partner 0 s.polygons
 
 module _ (s : ScaledShape) where
   -- what the polygons and the lines of the shape pass
   abbrev P : Test → Type 0
-  P = Passes s.d s.polygons s.shape.glues
+  P = Passes s.shape.straight s.d s.polygons s.shape.glues
 
   -- e is the stop of the first of these tests that fails
   abbrev StopsIn : List Test → BuildStop → Type 0
@@ -92,7 +93,7 @@ module _ (s : ScaledShape) where
 
   outcome_by : (e : BuildStop) → StopsIn (tests s.polygons s.shape.glues) e → IsBuildResult s.d s.shape (Err e)
   outcome_by e f =
-      let a = subst (λ ps. IsFirstStop (Passes s.d ps s.shape.glues) (tests ps s.shape.glues) stop_of e) s.taken f in
+      let a = subst (λ ps. IsFirstStop (Passes s.shape.straight s.d ps s.shape.glues) (tests ps s.shape.glues) stop_of e) s.taken f in
       inr (a.test, first_of_suffix (PassesOf s.d s.shape) (map of_scaling (scale_tests s.shape.polygons)) (tests (polygons_of s.shape) s.shape.glues) a.test scale_passes a.first, a.is)
 
   of_prefix : (xs ys : List Test) (e : BuildStop) → StopsIn xs e → StopsIn (xs ++ ys) e
@@ -102,7 +103,7 @@ module _ (s : ScaledShape) where
   of_suffix xs ys e passed a = record { test = a.test; first = first_of_suffix P xs ys a.test passed a.first; is = a.is }
 
   -- a polygon fails: the result is the stop of its first failed test
-  pub outcome_at_polygons : (e : BuildStop) → (e ≡ NoMemory) ⊎ ((glues : List Glue) → IsFirstStop (Passes s.d s.polygons glues) (tests_from 0 s.polygons) stop_of e) → IsBuildResult s.d s.shape (Err e)
+  pub outcome_at_polygons : (e : BuildStop) → (e ≡ NoMemory) ⊎ ((glues : List Glue) → IsFirstStop (Passes s.shape.straight s.d s.polygons glues) (tests_from 0 s.polygons) stop_of e) → IsBuildResult s.d s.shape (Err e)
   outcome_at_polygons e h = elim h [ inl memory ↦ inl memory | inr a ↦ outcome_by e (of_prefix _ _ e (a s.shape.glues)) ]
 
   -- a glue line fails: the result is the stop of its first failed test
@@ -136,7 +137,7 @@ module _ (s : ScaledShape) where
   pub short : AllByRecursion (λ polygon. length polygon ≤ most_sides) s.polygons
   short = subst (AllByRecursion (λ polygon. length polygon ≤ most_sides)) (sym s.taken) (short_polygons s.shape s.limits)
 
-  module _ (p : Corner → Option Corner) (h : IsPaired s.d s.polygons s.shape.glues p) where
+  module _ (p : Corner → Option Corner) (h : IsPaired s.shape.straight s.d s.polygons s.shape.glues p) where
     -- the glued polygons
     abbrev glued : List (List Side)
     glued = glued_polygons p 0 s.polygons
@@ -146,10 +147,10 @@ module _ (s : ScaledShape) where
     IsNear = IsReached (AreNeighbours glued)
 
     near_joined : (k : ℕ) → IsNear k → IsReached (Joins s.shape.glues) k
-    near_joined = reached_along (AreNeighbours glued) (Joins s.shape.glues) (neighbours_joined s.d s.polygons s.shape.glues p h)
+    near_joined = reached_along (AreNeighbours glued) (Joins s.shape.glues) (neighbours_joined s.shape.straight s.d s.polygons s.shape.glues p h)
 
     joined_near : (k : ℕ) → IsReached (Joins s.shape.glues) k → IsNear k
-    joined_near = reached_along (Joins s.shape.glues) (AreNeighbours glued) (joined_neighbours s.d s.polygons s.shape.glues p h)
+    joined_near = reached_along (Joins s.shape.glues) (AreNeighbours glued) (joined_neighbours s.shape.straight s.d s.polygons s.shape.glues p h)
 
     sides_pass : AllByRecursion P (map side_glued (all_sides s.polygons))
     sides_pass = All-map side_glued P (all_sides s.polygons) (All-weaker (all_sides s.polygons) (λ c. listed_from_partner s.shape.glues p c h.partners) h.sides)
@@ -170,27 +171,29 @@ module _ (s : ScaledShape) where
 
     all_pass : AllByRecursion IsNear numbers → AllByRecursion (PassesOf s.d s.shape) (tests_of s.shape)
     all_pass near = All-append (PassesOf s.d s.shape) (map of_scaling (scale_tests s.shape.polygons)) (tests (polygons_of s.shape) s.shape.glues) scale_passes
-        (subst (λ ps. AllByRecursion (Passes s.d ps s.shape.glues) (tests ps s.shape.glues)) s.taken (All-append P _ _ h.each (All-append P _ _ (lines_pass h.lines) (All-append P _ _ sides_pass
+        (subst (λ ps. AllByRecursion (Passes s.shape.straight s.d ps s.shape.glues) (tests ps s.shape.glues)) s.taken (All-append P _ _ h.each (All-append P _ _ (lines_pass h.lines) (All-append P _ _ sides_pass
         (subst (λ n. AllByRecursion P (map polygon_reached (range_with_len 0 n))) (rows_length p 0 s.polygons)
         (All-map polygon_reached P numbers (All-weaker numbers near_joined near)))))))
 
-    surface : IsRadicand s.d → AllByRecursion IsNear numbers → IsSurface (record { d = s.d; den = pos s.den; polygons = glued })
-    surface radicand near = is_surface s.d s.polygons s.shape.glues p h (pos s.den) radicand (let up = s.positive in omega (arith, ints))
+    surface : IsRadicand s.d → AllByRecursion IsNear numbers → IsSurface (record { d = s.d; straight = s.shape.straight; den = pos s.den; polygons = glued })
+    surface radicand near = is_surface s.shape.straight s.d s.polygons s.shape.glues p h (pos s.den) radicand (let up = s.positive in omega (arith, ints))
         (subst (λ n. 0 < n) (sym counted) s.limits.some_polygon)
         (subst (λ n. n ≤ most_polygons) (sym counted) s.limits.polygons)
         (subst (λ n. n ≤ most_sides) (sym summed) s.limits.sides)
         (λ k l. let same : 0 + k ≡ k = omega arith in subst IsNear same (All-range IsNear 0 (length glued) k near l))
 
-    has_surface : IsRadicand s.d → AllByRecursion IsNear numbers → IsBuildResult s.d s.shape (Ok (record { d = s.d; den = pos s.den; polygons = glued }))
+    has_surface : IsRadicand s.d → AllByRecursion IsNear numbers → IsBuildResult s.d s.shape (Ok (record { d = s.d; straight = s.shape.straight; den = pos s.den; polygons = glued }))
     has_surface radicand near = (
       surface radicand near,
       record {
         field = refl;
+        straight = refl;
         denominator = ap pos s.denominator;
+        least = subst (IsLeastCommonMultiple s.shape.polygons) (sym s.denominator) (common_den_least s.shape.polygons);
         same_vectors = rows_vectors p 0 s.polygons ∙ s.taken;
         each_scaled = λ c point side there here. subst (λ n. IsScaledVector n point side.vector) (sym s.denominator)
             (vectors_scaled s.shape glued (rows_vectors p 0 s.polygons ∙ s.taken) c point side there here);
-        as_the_lines = lines_are_glued s.d s.polygons s.shape.glues p h;
+        as_the_lines = lines_are_glued s.shape.straight s.d s.polygons s.shape.glues p h;
       },
       all_pass near,
     )
@@ -209,7 +212,7 @@ module _ (s : ScaledShape) where
     -- every side is glued
     pub rows_glued : (c : Corner) (side : Side) → at_side g.rows c ≡ Some side → IsGlued g.rows c side
     rows_glued = subst (λ (ps : List (List Side)). (c : Corner) (side : Side) → at_side ps c ≡ Some side → IsGlued ps c side) (sym g.rows_are)
-        (rows_are_glued s.d s.polygons s.shape.glues g.partner g.paired)
+        (rows_are_glued s.shape.straight s.d s.polygons s.shape.glues g.partner g.paired)
 
     -- a polygon isn't reached: the result is `Apart`
     pub outcome_at_reaching : (e : BuildStop) → (e ≡ NoMemory) ⊎ IsFirstStop (IsReached (AreNeighbours g.rows)) (range_with_len 0 (length g.rows)) (λ i. stop_of (polygon_reached i)) e
@@ -227,16 +230,16 @@ module _ (s : ScaledShape) where
       near_glued = subst (λ (ps : List (List Side)). AllByRecursion (IsReached (AreNeighbours ps)) (range_with_len 0 (length ps))) g.rows_are near
 
       -- they are a surface
-      pub rows_surface : (n : ℤ) → n ≡ pos s.den → IsSurface (record { d = s.d; den = n; polygons = g.rows })
+      pub rows_surface : (n : ℤ) → n ≡ pos s.den → IsSurface (record { d = s.d; straight = s.shape.straight; den = n; polygons = g.rows })
       rows_surface n is =
-          subst (λ ps. IsSurface (record { d = s.d; den = n; polygons = ps })) (sym g.rows_are)
-          (subst (λ m. IsSurface (record { d = s.d; den = m; polygons = glued g.partner g.paired })) (sym is) (surface g.partner g.paired radicand near_glued))
+          subst (λ ps. IsSurface (record { d = s.d; straight = s.shape.straight; den = n; polygons = ps })) (sym g.rows_are)
+          (subst (λ m. IsSurface (record { d = s.d; straight = s.shape.straight; den = m; polygons = glued g.partner g.paired })) (sym is) (surface g.partner g.paired radicand near_glued))
 
       -- all tests pass: the result is the surface of the shape
-      pub outcome_of_all_passed : (t : GluedPolygons) (n : ℤ) → n ≡ pos s.den → t ≡ record { d = s.d; den = n; polygons = g.rows } → IsBuildResult s.d s.shape (Ok t)
+      pub outcome_of_all_passed : (t : GluedPolygons) (n : ℤ) → n ≡ pos s.den → t ≡ record { d = s.d; straight = s.shape.straight; den = n; polygons = g.rows } → IsBuildResult s.d s.shape (Ok t)
       outcome_of_all_passed t n is same =
           subst (λ u. IsBuildResult s.d s.shape (Ok u))
-          (sym (same ∙ ap (λ ps. record { d = s.d; den = n; polygons = ps }) g.rows_are ∙ ap (λ m. record { d = s.d; den = m; polygons = glued g.partner g.paired }) is))
+          (sym (same ∙ ap (λ ps. record { d = s.d; straight = s.shape.straight; den = n; polygons = ps }) g.rows_are ∙ ap (λ m. record { d = s.d; straight = s.shape.straight; den = m; polygons = glued g.partner g.paired }) is))
           (has_surface g.partner g.paired radicand near_glued)
 
 -- a test that is the first to fail gives the result

@@ -1,8 +1,8 @@
 -- Each shape within the limits that passes all tests has a surface.
-use Rattle.std.proofs.Common.{ℕ, ◌+◌, ◌<◌, pos, Option, Some, None, cond, List, [], ◌∷◌, ◌++◌, length, map, refl, sym, subst, arith, append-nil, append_assoc}
+use Rattle.std.proofs.Common.{ℕ, ◌<◌, pos, Option, Some, None, cond, List, [], ◌∷◌, ◌++◌, length, map, refl, sym, subst, arith, append-nil, append_assoc}
 use Rattle.std.specs.BTreeMap.{is_at}
 use Rattle.std.specs.List.{AllByRecursion, Contains, range_with_len}
-use Rattle.fs_lists.proofs.All.{All-append, All-prefix, All-suffix, All-weaker, All-of_map}
+use Rattle.fs_lists.proofs.All.{All-prefix, All-suffix, All-weaker, All-of_map}
 use Rattle.fs_quadratic.specs.Radicand.{IsRadicand}
 use Rattle.fs_fraction.proofs.Divisors.{multiple_positive}
 use Rattle.fs_plane.specs.Vector.{PlaneVector}
@@ -15,11 +15,12 @@ use Rattle.fs_gluing.specs.FirstFault.{Test, of_scaling, of_line, side_glued, po
 use Rattle.fs_gluing.specs.Gluing.{ArePartners, corner_cmp, glued_polygons}
 use Rattle.fs_gluing.specs.Polygons.{all_sides}
 use Rattle.fs_gluing.specs.Reached.{IsReached}
-use Rattle.fs_gluing.specs.Scaling.{NumberedSide, all_numbered, numbered_sides, numbered_from, common_from, common_multiple, common_den, scale_tests, PassesScale}
+use Rattle.fs_gluing.specs.Scaling.{NumberedSide, all_numbered, common_from, common_multiple, common_den, scale_tests, PassesScale}
 use Rattle.fs_gluing.specs.Shape.{IsWithinLimits, HasShape, glued_sides, polygons_of}
 use Rattle.fs_gluing.specs.Surface.{GluedPolygons, IsSurface, AreNeighbours}
 use Rattle.fs_gluing.proofs.Gluing.GluedPolygons.{IsPaired, rows_length, joined_neighbours}
 use Rattle.fs_gluing.proofs.Outcome.BuildResult.{ScaledShape, GluedShape, scaled_shape, reached_along, outcome_of_all_passed}
+use Rattle.fs_gluing.proofs.Scale.CommonDenominator.{numbered_all}
 use Rattle.fs_gluing.proofs.Gluing.Partners.{partners_more, listed_has_partner}
 
 -- both denominators are above 0
@@ -28,19 +29,7 @@ HasDenominators point = (0 < point.x.den) × (0 < point.y.den)
 
 -- ---- the common denominator
 
--- both denominators of the side are above 0
-abbrev HasOwnDenominators : NumberedSide → Type 0
-HasOwnDenominators s = HasDenominators s.vector
-
-numbered_sides_have : (i j : ℕ) (points : List Point) → AllByRecursion HasDenominators points → AllByRecursion HasOwnDenominators (numbered_sides i j points)
-numbered_sides_have i j [] a = tt
-numbered_sides_have i j (point ∷ points) a = (a.0, numbered_sides_have i (j + 1) points a.1)
-
-numbered_from_have : (i : ℕ) (polygons : List (List Point)) → AllByRecursion (AllByRecursion HasDenominators) polygons → AllByRecursion HasOwnDenominators (numbered_from i polygons)
-numbered_from_have i [] a = tt
-numbered_from_have i (polygon ∷ polygons) a = All-append HasOwnDenominators (numbered_sides i 0 polygon) (numbered_from (i + 1) polygons) (numbered_sides_have i 0 polygon a.0) (numbered_from_have (i + 1) polygons a.1)
-
-common_positive : (m : ℕ) (sides : List NumberedSide) → 0 < m → AllByRecursion HasOwnDenominators sides → 0 < common_from m sides
+common_positive : (m : ℕ) (sides : List NumberedSide) → 0 < m → AllByRecursion (λ s. HasDenominators s.vector) sides → 0 < common_from m sides
 common_positive m [] h a = h
 common_positive m (s ∷ sides) h a =
     common_positive (common_multiple (common_multiple m s.vector.x.den) s.vector.y.den) sides
@@ -117,10 +106,10 @@ module _ (d : ℕ) (shape : Shape) (passed : AllByRecursion (PassesOf d shape) (
 
   -- the scaled shape
   abbrev scaled : IsWithinLimits shape → AllByRecursion (AllByRecursion HasDenominators) shape.polygons → ScaledShape
-  scaled limits points = scaled_shape d shape (common_den shape.polygons) polygons limits scales refl refl (common_positive 1 (all_numbered shape.polygons) (omega arith) (numbered_from_have 0 shape.polygons points))
+  scaled limits points = scaled_shape d shape (common_den shape.polygons) polygons limits scales refl refl (common_positive 1 (all_numbered shape.polygons) (omega arith) (numbered_all HasDenominators 0 shape.polygons points))
 
   module _ (p : Corner → Option Corner) (partners : ArePartners glues p) where
-    paired : IsPaired d polygons glues p
+    paired : IsPaired shape.straight d polygons glues p
     paired = record {
       each = each;
       lines = lines;
@@ -134,13 +123,13 @@ module _ (d : ℕ) (shape : Shape) (passed : AllByRecursion (PassesOf d shape) (
 
     near : AllByRecursion (IsReached (AreNeighbours rows)) (range_with_len 0 (length rows))
     near = subst (λ n. AllByRecursion (IsReached (AreNeighbours rows)) (range_with_len 0 n)) (sym (rows_length p 0 polygons))
-        (All-weaker (range_with_len 0 (length polygons)) (reached_along (Joins glues) (AreNeighbours rows) (joined_neighbours d polygons glues p paired)) reached)
+        (All-weaker (range_with_len 0 (length polygons)) (reached_along (Joins glues) (AreNeighbours rows) (joined_neighbours shape.straight d polygons glues p paired)) reached)
 
     with_partners : IsRadicand d → IsWithinLimits shape → AllByRecursion (AllByRecursion HasDenominators) shape.polygons → (s : GluedPolygons) × IsSurface s × HasShape d shape s
     with_partners radicand limits points =
         let s = scaled limits points in
         let g : GluedShape s = record { partner = p; rows = rows; paired = paired; rows_are = refl } in
-        let t : GluedPolygons = record { d = d; den = pos s.den; polygons = rows } in
+        let t : GluedPolygons = record { d = d; straight = shape.straight; den = pos s.den; polygons = rows } in
         let outcome = outcome_of_all_passed s g radicand near t (pos s.den) refl refl in
         (t, outcome.0, outcome.1)
 

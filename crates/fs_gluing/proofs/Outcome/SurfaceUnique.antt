@@ -1,19 +1,22 @@
 -- A shape that passes all tests has at most one surface.
-use Rattle.std.proofs.Common.{◌≡◌, ℕ, ◌+◌, suc, Some, List, [], ◌∷◌, map, sym, ap, ◌∙◌, refl, subst, arith}
+use Rattle.std.proofs.Common.{◌≡◌, ◌⊎◌, inl, inr, ℕ, ◌+◌, suc, Result, Ok, Err, Some, List, [], ◌∷◌, map, sym, ap, ◌∙◌, refl, subst, arith}
 use Rattle.std.proofs.lemmas.List.Elements.{All-contains, All-from_recursion}
 use Rattle.std.proofs.lemmas.Option.{same_Some}
 use Rattle.std.specs.Option.{option_map}
 use Rattle.std.specs.List.{AllByRecursion, Contains, slice_get}
+use Rattle.fs_lists.proofs.First.{first_not_all}
 use Rattle.fs_lists.proofs.Equal.{heads_equal, tails_equal, cons_equal}
 use Rattle.fs_plane.specs.Vector.{PlaneVector}
 use Rattle.fs_plane.specs.declared.corners.Corner.{Corner}
 use Rattle.fs_gluing.specs.declared.shapes.Glue.{Glue}
 use Rattle.fs_gluing.specs.declared.shapes.Shape.{Shape}
 use Rattle.fs_gluing.specs.declared.surfaces.Side.{Side}
-use Rattle.fs_gluing.specs.FirstFault.{PassesOf, tests_of}
+use Rattle.fs_gluing.specs.declared.faults.BuildStop.{BuildStop}
+use Rattle.fs_gluing.specs.declared.faults.BuildStop.TheVariants.{NoMemory}
+use Rattle.fs_gluing.specs.FirstFault.{PassesOf, tests_of, IsBuildResult}
 use Rattle.fs_gluing.specs.Polygons.{at_side, all_sides}
 use Rattle.fs_gluing.specs.Shape.{AreGlued, HasShape, glued_sides, polygons_of}
-use Rattle.fs_gluing.specs.Surface.{GluedPolygons, side_vectors}
+use Rattle.fs_gluing.specs.Surface.{GluedPolygons, IsSurface, side_vectors}
 use Rattle.fs_gluing.proofs.Gluing.GluedPolygons.{rows_hold}
 use Rattle.fs_gluing.proofs.Scale.ScaledVectors.{at_side-map}
 use Rattle.fs_gluing.proofs.Outcome.SurfaceExists.{listed}
@@ -77,11 +80,20 @@ partners_of_all polygons glues ps qs same listed in_p in_q c a b at_p at_q =
 
 -- ---- the surface
 
-same_surface : (s t : GluedPolygons) → s.d ≡ t.d → s.den ≡ t.den → s.polygons ≡ t.polygons → s ≡ t
-same_surface s t d den polygons = λ i. record { d = d i; den = den i; polygons = polygons i }
+same_surface : (s t : GluedPolygons) → s.d ≡ t.d → s.straight ≡ t.straight → s.den ≡ t.den → s.polygons ≡ t.polygons → s ≡ t
+same_surface s t d straight den polygons = λ i. record { d = d i; straight = straight i; den = den i; polygons = polygons i }
 
 pub surface_unique : (d : ℕ) (shape : Shape) (s t : GluedPolygons) → HasShape d shape s → HasShape d shape t → AllByRecursion (PassesOf d shape) (tests_of shape) → s ≡ t
 surface_unique d shape s t of_s of_t passed =
-    same_surface s t (of_s.field ∙ sym of_t.field) (of_s.denominator ∙ sym of_t.denominator)
+    same_surface s t (of_s.field ∙ sym of_t.field) (of_s.straight ∙ sym of_t.straight) (of_s.denominator ∙ sym of_t.denominator)
     (same_rows s.polygons t.polygons (of_s.same_vectors ∙ sym of_t.same_vectors)
     (partners_of_all (polygons_of shape) shape.glues s.polygons t.polygons of_s.same_vectors (listed d shape passed) of_s.as_the_lines of_t.as_the_lines))
+
+-- a surface of the shape is the one that is returned, where one is
+pub returned_of_outcome : (d : ℕ) (shape : Shape) (r : Result GluedPolygons BuildStop) → IsBuildResult d shape r → (s : GluedPolygons) → IsSurface s → HasShape d shape s
+    → AllByRecursion (PassesOf d shape) (tests_of shape) → (r ≡ Ok s) ⊎ (r ≡ Err NoMemory)
+returned_of_outcome d shape (Ok t) j s surface of_s passed = inl (ap Ok (surface_unique d shape t s j.1 of_s passed))
+returned_of_outcome d shape (Err e) j s surface of_s passed = elim j [
+  | inl memory ↦ inr (ap Err memory)
+  | inr h ↦ absurd (first_not_all (PassesOf d shape) (tests_of shape) h.0 h.1 passed)
+]

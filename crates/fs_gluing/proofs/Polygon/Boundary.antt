@@ -1,5 +1,5 @@
 -- The positions of the corners along the boundary of a polygon, side by side, and that it closes.
-use Rattle.std.proofs.Common.{◌≡◌, ◌≢◌, ℕ, ◌+◌, ◌-◌, ◌<◌, List, [], ◌∷◌, ◌++◌, length, get_or, take, drop, sym, ap, ◌∙◌, refl, subst, arith, append_assoc}
+use Rattle.std.proofs.Common.{◌≡◌, ◌≢◌, ℕ, Bool, ◌+◌, ◌-◌, ◌<◌, List, [], ◌∷◌, ◌++◌, length, get_or, take, drop, sym, ap, ◌∙◌, refl, subst, arith, append_assoc}
 use Rattle.std.proofs.lemmas.List.{take_more, take_all, drop_more, drop_all, append-nil}
 use Rattle.std.specs.List.{AllByRecursion, flat_map, range_with_len}
 use Rattle.fs_lists.proofs.Items.{IsItem}
@@ -50,7 +50,7 @@ vector_total_from-push a (b ∷ bs) v = vector_total_from-push (vector_add a b) 
 pub record HasPositionsUpTo (sides : List PlaneVector) (j : ℕ) (position : PlaneVector) (positions : List PlaneVector) : Type 0 where
   pub position_is : position ≡ corner_position sides j
   pub positions_are : positions ++ positions_from position (drop j sides) ≡ positions_from vector_zero sides
-  pub passed : (d : ℕ) → PassesBefore (PassesIn d sides) (closing_tests sides) (tests_after sides j)
+  pub passed : (straight : Bool) (d : ℕ) → PassesBefore (PassesIn straight d sides) (closing_tests sides) (tests_after sides j)
 
 -- the next position
 position_after_is : (sides : List PlaneVector) (j : ℕ) (position : PlaneVector) (side : PlaneVector) (positions : List PlaneVector) → IsItem sides j side → HasPositionsUpTo sides j position positions → corner_position sides (j + 1) ≡ vector_add position side
@@ -60,16 +60,16 @@ position_after_is sides j position side positions item w =
     ∙ ap (λ v. vector_add (corner_position sides j) v) (sym item.is)
     ∙ ap (λ p. vector_add p side) (sym w.position_is)
 
-at_side_tests : (d : ℕ) (sides : List PlaneVector) (j : ℕ) (position : PlaneVector) (positions : List PlaneVector) → j < length sides → HasPositionsUpTo sides j position positions
-    → PassesBefore (PassesIn d sides) (closing_tests sides) (x_fits j ∷ y_fits j ∷ tests_after sides (j + 1))
-at_side_tests d sides j position positions l w = passes_before_same _ _ _ _ (tests_after-more sides j l) (w.passed d)
+at_side_tests : (straight : Bool) (d : ℕ) (sides : List PlaneVector) (j : ℕ) (position : PlaneVector) (positions : List PlaneVector) → j < length sides → HasPositionsUpTo sides j position positions
+    → PassesBefore (PassesIn straight d sides) (closing_tests sides) (x_fits j ∷ y_fits j ∷ tests_after sides (j + 1))
+at_side_tests straight d sides j position positions l w = passes_before_same _ _ _ _ (tests_after-more sides j l) (w.passed straight d)
 
 -- corner 0 is at (0,0)
 pub positions_none : (sides : List PlaneVector) (positions : List PlaneVector) → positions ≡ [] → HasPositionsUpTo sides 0 vector_zero positions
 positions_none sides positions none = record {
   position_is = refl;
   positions_are = ap (λ (ps : List PlaneVector). ps ++ positions_from vector_zero sides) none;
-  passed = λ d. passes_before_none _ _ _ (tests_after-none sides);
+  passed = λ straight d. passes_before_none _ _ _ (tests_after-none sides);
 }
 
 -- one more position
@@ -90,7 +90,7 @@ positions_more sides j position side positions positions' item w more a b a_is b
           ∙ ap (λ (s : PlaneVector). positions ++ (position ∷ positions_from (vector_add position s) (drop (j + 1) sides))) item.is
           ∙ ap (λ (ss : List PlaneVector). positions ++ positions_from position ss) (sym (drop_more sides j side item.inside))
           ∙ w.positions_are;
-      passed = λ d. passes_before_more _ _ (x_fits j ∷ y_fits j ∷ []) _ (at_side_tests d sides j position positions item.inside w)
+      passed = λ straight d. passes_before_more _ _ (x_fits j ∷ y_fits j ∷ []) _ (at_side_tests straight d sides j position positions item.inside w)
           (subst (λ (p : PlaneVector). Fits p.x) (sym is) fits_x, (subst (λ (p : PlaneVector). Fits p.y) (sym is) fits_y, tt));
     }
 
@@ -101,46 +101,46 @@ polygon_stop i sides test = stop_of (of_polygon i sides test)
 -- x of the next position overflows
 pub x_fails : (i : ℕ) (sides : List PlaneVector) (j : ℕ) (position side : PlaneVector) (positions : List PlaneVector) → IsItem sides j side → HasPositionsUpTo sides j position positions
     → (a b : PlaneVector) → a ≡ position → b ≡ side → ¬ Fits (add a.x b.x) → (c : Corner) → c ≡ record { polygon = i; side = j } → (site : Site) → site ≡ sites.Close c.polygon c.side 1
-    → (d : ℕ) → IsFirstStop (PassesIn d sides) (closing_tests sides) (polygon_stop i sides) (stops.Overflow site)
-x_fails i sides j position side positions item w a b a_is b_is fails c c_is site is d =
-    first_stop_of_rest _ _ _ _ _ (at_side_tests d sides j position positions item.inside w)
-    (first_stop_of_head (PassesIn d sides) (x_fits j) _ (polygon_stop i sides) _ (ap (λ s. stops.Overflow s) is ∙ ap (λ (k : Corner). stops.Overflow (sites.Close k.polygon k.side 1)) c_is)
+    → (straight : Bool) (d : ℕ) → IsFirstStop (PassesIn straight d sides) (closing_tests sides) (polygon_stop i sides) (stops.Overflow site)
+x_fails i sides j position side positions item w a b a_is b_is fails c c_is site is straight d =
+    first_stop_of_rest _ _ _ _ _ (at_side_tests straight d sides j position positions item.inside w)
+    (first_stop_of_head (PassesIn straight d sides) (x_fits j) _ (polygon_stop i sides) _ (ap (λ s. stops.Overflow s) is ∙ ap (λ (k : Corner). stops.Overflow (sites.Close k.polygon k.side 1)) c_is)
     (λ fits. fails (subst Fits (sym (λ k. add (a_is k).x (b_is k).x)) (subst (λ (p : PlaneVector). Fits p.x) (position_after_is sides j position side positions item w) fits))))
 
 -- y of the next position overflows
 pub y_fails : (i : ℕ) (sides : List PlaneVector) (j : ℕ) (position side : PlaneVector) (positions : List PlaneVector) → IsItem sides j side → HasPositionsUpTo sides j position positions
     → (a b : PlaneVector) → a ≡ position → b ≡ side → Fits (add a.x b.x) → ¬ Fits (add a.y b.y) → (c : Corner) → c ≡ record { polygon = i; side = j } → (site : Site) → site ≡ sites.Close c.polygon c.side 2
-    → (d : ℕ) → IsFirstStop (PassesIn d sides) (closing_tests sides) (polygon_stop i sides) (stops.Overflow site)
-y_fails i sides j position side positions item w a b a_is b_is fits_x fails c c_is site is d =
+    → (straight : Bool) (d : ℕ) → IsFirstStop (PassesIn straight d sides) (closing_tests sides) (polygon_stop i sides) (stops.Overflow site)
+y_fails i sides j position side positions item w a b a_is b_is fits_x fails c c_is site is straight d =
     let next = position_after_is sides j position side positions item w in
     let passes : Fits (add position.x side.x) = subst Fits (λ k. add (a_is k).x (b_is k).x) fits_x in
     first_stop_of_rest _ _ _ _ _
-    (passes_before_more _ _ (x_fits j ∷ []) _ (at_side_tests d sides j position positions item.inside w) (subst (λ (p : PlaneVector). Fits p.x) (sym next) passes, tt))
-    (first_stop_of_head (PassesIn d sides) (y_fits j) _ (polygon_stop i sides) _ (ap (λ s. stops.Overflow s) is ∙ ap (λ (k : Corner). stops.Overflow (sites.Close k.polygon k.side 2)) c_is)
+    (passes_before_more _ _ (x_fits j ∷ []) _ (at_side_tests straight d sides j position positions item.inside w) (subst (λ (p : PlaneVector). Fits p.x) (sym next) passes, tt))
+    (first_stop_of_head (PassesIn straight d sides) (y_fits j) _ (polygon_stop i sides) _ (ap (λ s. stops.Overflow s) is ∙ ap (λ (k : Corner). stops.Overflow (sites.Close k.polygon k.side 2)) c_is)
     (λ fits. fails (subst Fits (sym (λ k. add (a_is k).y (b_is k).y)) (subst (λ (p : PlaneVector). Fits p.y) next fits))))
 
 -- after all sides only the test that the polygon closes is left
 positions_all : (sides : List PlaneVector) (n : ℕ) (position : PlaneVector) (positions : List PlaneVector) → n ≡ length sides → HasPositionsUpTo sides n position positions
-    → (position ≡ vector_total sides) × ((d : ℕ) → PassesBefore (PassesIn d sides) (closing_tests sides) (polygon_closes ∷ []))
+    → (position ≡ vector_total sides) × ((straight : Bool) (d : ℕ) → PassesBefore (PassesIn straight d sides) (closing_tests sides) (polygon_closes ∷ []))
 positions_all sides n position positions e w = (
   w.position_is ∙ ap vector_total (take_all n sides (omega (arith, e))),
-  λ d. passes_before_same _ _ _ _ (ap (tests_after sides) e ∙ tests_after-all sides) (w.passed d),
+  λ straight d. passes_before_same _ _ _ _ (ap (tests_after sides) e ∙ tests_after-all sides) (w.passed straight d),
 )
 
 -- the last position isn't (0,0): the polygon doesn't close
 pub closes_fails : (i : ℕ) (sides : List PlaneVector) (n : ℕ) (position : PlaneVector) (positions : List PlaneVector) → n ≡ length sides → HasPositionsUpTo sides n position positions → position ≢ vector_zero
-    → (d : ℕ) → IsFirstStop (PassesIn d sides) (closing_tests sides) (polygon_stop i sides) (stops.Fault (faults.NotClosed i))
-closes_fails i sides n position positions e w fails d =
+    → (straight : Bool) (d : ℕ) → IsFirstStop (PassesIn straight d sides) (closing_tests sides) (polygon_stop i sides) (stops.Fault (faults.NotClosed i))
+closes_fails i sides n position positions e w fails straight d =
     let a = positions_all sides n position positions e w in
-    first_stop_of_rest _ _ _ _ _ (a.1 d)
-    (first_stop_of_head (PassesIn d sides) polygon_closes [] (polygon_stop i sides) _ refl (λ closes. fails (a.0 ∙ closes)))
+    first_stop_of_rest _ _ _ _ _ (a.1 straight d)
+    (first_stop_of_head (PassesIn straight d sides) polygon_closes [] (polygon_stop i sides) _ refl (λ closes. fails (a.0 ∙ closes)))
 
 -- the last position is (0,0): all tests pass
 pub closes : (sides : List PlaneVector) (n : ℕ) (position : PlaneVector) (positions : List PlaneVector) → n ≡ length sides → HasPositionsUpTo sides n position positions → position ≡ vector_zero
-    → (d : ℕ) → AllByRecursion (PassesIn d sides) (closing_tests sides)
-closes sides n position positions e w closed d =
+    → (straight : Bool) (d : ℕ) → AllByRecursion (PassesIn straight d sides) (closing_tests sides)
+closes sides n position positions e w closed straight d =
     let a = positions_all sides n position positions e w in
-    all_from_passes_before _ _ (passes_before_more _ _ (polygon_closes ∷ []) [] (a.1 d) (sym a.0 ∙ closed, tt))
+    all_from_passes_before _ _ (passes_before_more _ _ (polygon_closes ∷ []) [] (a.1 straight d) (sym a.0 ∙ closed, tt))
 
 -- after all sides the list has all positions
 pub positions_complete : (sides : List PlaneVector) (n : ℕ) (position : PlaneVector) (positions : List PlaneVector) → n ≡ length sides → HasPositionsUpTo sides n position positions → positions ≡ positions_from vector_zero sides

@@ -1,7 +1,6 @@
 -- The vectors of a scaled shape over the common denominator are the unscaled ones.
-use Rattle.std.proofs.Common.{◌≡◌, ℕ, zero, suc, ℤ, pos, ◌+◌, ◌*◌, ◌/◌, ◌*ℤ◌, Some, List, [], ◌∷◌, map, sym, ap, ◌∙◌, refl, subst, arith}
-use Rattle.std.proofs.Math.Nat.{dvd-mul_left, dvd-mul_right, mul-div_cancel'}
-use Rattle.std.proofs.lemmas.Nat.Gcd.{dvd_trans}
+use Rattle.std.proofs.Common.{◌≡◌, ℕ, zero, suc, ℤ, pos, ◌+◌, ◌*◌, ◌/◌, ◌*ℤ◌, Some, List, [], ◌∷◌, map, sym, ap, ◌∙◌, refl, subst}
+use Rattle.std.proofs.Math.Nat.{mul-div_cancel'}
 use Rattle.std.proofs.lemmas.Option.{same_Some, slice_get-map}
 use Rattle.std.specs.Int.{◌∣◌}
 use Rattle.std.specs.Option.{option_map, option_and_then}
@@ -11,55 +10,17 @@ use Rattle.fs_lists.proofs.All.{All-prefix, All-suffix}
 use Rattle.fs_ring.proofs.Integers.{integer_ring}
 use Rattle.fs_ring.proofs.Solver.{identity, ◌⊗◌, ◌≐◌}
 use Rattle.fs_quadratic.proofs.Laws.{quadratic_eq}
-use Rattle.fs_fraction.specs.Divisor.{gcd}
 use Rattle.fs_fraction.specs.Fraction.{Fraction, HasValue, scale}
-use Rattle.fs_fraction.proofs.Divisors.{gcd-is}
 use Rattle.fs_plane.specs.Vector.{PlaneVector}
 use Rattle.fs_plane.specs.declared.corners.Corner.{Corner}
 use Rattle.fs_gluing.specs.declared.shapes.Point.{Point}
 use Rattle.fs_gluing.specs.declared.shapes.Shape.{Shape}
 use Rattle.fs_gluing.specs.declared.surfaces.Side.{Side}
 use Rattle.fs_gluing.specs.Polygons.{at_side}
-use Rattle.fs_gluing.specs.Scaling.{NumberedSide, numbered_sides, numbered_from, all_numbered, common_multiple, common_from, common_den, scaled_vector}
+use Rattle.fs_gluing.specs.Scaling.{IsMultipleOf, numbered_sides, numbered_from, all_numbered, common_den, scaled_vector}
 use Rattle.fs_gluing.specs.Shape.{polygons_of, IsScaledVector}
 use Rattle.fs_gluing.specs.Surface.{side_vectors}
-
--- ---- the denominators divide the common one
-
-regroup : (a g b m n : ℕ) → g * a ≡ m → g * b ≡ n → a * n ≡ m * b
-regroup a g b m n first second = ap (λ k. a * k) (sym second) ∙ omega arith ∙ ap (λ k. k * b) first
-
-first_divides : (m n : ℕ) → m ∣ common_multiple m n
-first_divides m n = dvd-mul_right m (n / gcd m n)
-
-second_divides : (m n : ℕ) → n ∣ common_multiple m n
-second_divides m n =
-    let g = gcd m n in
-    subst (λ k. n ∣ k) (regroup (m / g) g (n / g) m n (mul-div_cancel' g ((gcd-is m n).0)) (mul-div_cancel' g ((gcd-is m n).1))) (dvd-mul_left n (m / g))
-
--- k is a multiple of both denominators
-abbrev IsMultiple : ℕ → Point → Type 0
-IsMultiple k point = (point.x.den ∣ k) × (point.y.den ∣ k)
-
-common_divides : (m : ℕ) (sides : List NumberedSide) → m ∣ common_from m sides
-common_divides m [] = subst (λ k. m ∣ k) (omega arith) (dvd-mul_right m 1)
-common_divides m (s ∷ sides) =
-    let with_x = common_multiple m s.vector.x.den in
-    let with_y = common_multiple with_x s.vector.y.den in
-    dvd_trans m (first_divides m s.vector.x.den) (dvd_trans with_x (first_divides with_x s.vector.y.den) (common_divides with_y sides))
-
-each_divides : (m : ℕ) (sides : List NumberedSide) → AllByRecursion (λ s. IsMultiple (common_from m sides) s.vector) sides
-each_divides m [] = tt
-each_divides m (s ∷ sides) =
-    let with_x = common_multiple m s.vector.x.den in
-    let with_y = common_multiple with_x s.vector.y.den in
-    let rest = common_divides with_y sides in (
-      (
-        dvd_trans s.vector.x.den (second_divides m s.vector.x.den) (dvd_trans with_x (first_divides with_x s.vector.y.den) rest),
-        dvd_trans s.vector.y.den (second_divides with_x s.vector.y.den) rest,
-      ),
-      each_divides with_y sides,
-    )
+use Rattle.fs_gluing.proofs.Scale.CommonDenominator.{each_divides}
 
 -- ---- what holds of all sides holds of one that exists
 in_row : (P : Point → Type 0) (i j : ℕ) (points : List Point) (n : ℕ) (point : Point) → AllByRecursion (λ s. P s.vector) (numbered_sides i j points) → slice_get points n ≡ Some point → P point
@@ -100,5 +61,5 @@ vectors_scaled shape polygons same c point side there here =
     let own : at_side (map side_vectors polygons) c ≡ Some side.vector = at_side-map (λ (s : Side). s.vector) polygons c ∙ ap (option_map (λ (s : Side). s.vector)) here in
     let made : at_side (polygons_of shape) c ≡ Some (scaled_vector den point) = at_side-map (scaled_vector den) shape.polygons c ∙ ap (option_map (scaled_vector den)) there in
     let is : scaled_vector den point ≡ side.vector = same_Some _ _ (sym made ∙ (ap (λ (ps : List (List PlaneVector)). at_side ps c) (sym same) ∙ own)) in
-    let divides : IsMultiple den point = in_polygons (IsMultiple den) 0 shape.polygons c.polygon c.side point (each_divides 1 (all_numbered shape.polygons)) there in
+    let divides : IsMultipleOf den point = in_polygons (IsMultipleOf den) 0 shape.polygons c.polygon c.side point (each_divides 1 (all_numbered shape.polygons)) there in
     subst (IsScaledVector den point) is (has_value point.x den divides.0, has_value point.y den divides.1)

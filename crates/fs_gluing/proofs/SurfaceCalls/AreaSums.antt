@@ -15,7 +15,7 @@ use Rattle.fs_ring.specs.Vector as plane
 use Rattle.fs_ring.proofs.Solver.{expressions as E, ◌≐◌}
 use Rattle.fs_ring.proofs.PlaneSolver.{plane_identity}
 use Rattle.fs_quadratic.specs.Ring as ring
-use Rattle.fs_quadratic.specs.Ring.{Quadratic, quadratic, add}
+use Rattle.fs_quadratic.specs.Ring.{Quadratic, quadratic, add, total}
 use Rattle.fs_quadratic.specs.Width.{Fits, is_fitting}
 use Rattle.fs_quadratic.proofs.Laws.{quadratic_ring}
 use Rattle.fs_quadratic.proofs.WidthTests.{Decides-is_fitting}
@@ -29,7 +29,7 @@ use Rattle.fs_plane.specs.Formulas.{cross_after}
 use Rattle.fs_plane.proofs.FormulaLaws.{cross_value}
 use Rattle.fs_gluing.specs.Limits.{most_sides}
 use Rattle.fs_gluing.specs.declared.surfaces.Side.{Side}
-use Rattle.fs_gluing.specs.Area.{Triangle, triangles_from, triangles_of, all_triangles, triangles, twice_triangle, twice_areas, twice_area, add_triangle, continued, sum_after}
+use Rattle.fs_gluing.specs.Area.{Triangle, triangles_from, triangles_of, all_triangles, triangles, twice_triangle, twice_area, add_triangle, continued, sum_after}
 use Rattle.fs_gluing.specs.Positions.{positions_from}
 use Rattle.fs_gluing.specs.Surface.{GluedPolygons, IsSurface, side_vectors}
 use Rattle.fs_gluing.proofs.SurfaceCalls.Positions.{length-positions_from}
@@ -213,18 +213,18 @@ triangle_value : (d : ℕ) (sum next : Quadratic) (t : Triangle) → add_triangl
 triangle_value d sum next t e = sum_of_part d sum next t (cross_after 0 d t.one t.two) refl e
 
 value_continued : (d : ℕ) (sum : Quadratic) (t : Triangle) (r : Result Quadratic Place) (ts : List Triangle) (x : Quadratic) → add_triangle d sum t ≡ r
-    → continued t r (λ next. sum_after d next ts) ≡ Ok x → ((next : Quadratic) → sum_after d next ts ≡ Ok x → x ≡ add next (twice_areas d ts))
-    → x ≡ add sum (twice_areas d (t ∷ ts))
+    → continued t r (λ next. sum_after d next ts) ≡ Ok x → ((next : Quadratic) → sum_after d next ts ≡ Ok x → x ≡ add next (total (map (twice_triangle d) ts)))
+    → x ≡ add sum (total (map (twice_triangle d) (t ∷ ts)))
 value_continued d sum t (Ok next) ts x e f h =
     h next f
-    ∙ (ap (λ (n : Quadratic). add n (twice_areas d ts)) (triangle_value d sum next t e)
-    ∙ (quadratic_ring d).add_assoc sum (twice_triangle d t) (twice_areas d ts))
+    ∙ (ap (λ (n : Quadratic). add n (total (map (twice_triangle d) ts))) (triangle_value d sum next t e)
+    ∙ (quadratic_ring d).add_assoc sum (twice_triangle d t) (total (map (twice_triangle d) ts)))
 value_continued d sum t (Err stop) ts x e f h = cc
 
 same_sum : (sum x : Quadratic) → ◌≡◌ {A = Result Quadratic Site} (Ok sum) (Ok x) → x ≡ sum
 same_sum sum x e = cc
 
-sum_value : (d : ℕ) (sum : Quadratic) (ts : List Triangle) (x : Quadratic) → sum_after d sum ts ≡ Ok x → x ≡ add sum (twice_areas d ts)
+sum_value : (d : ℕ) (sum : Quadratic) (ts : List Triangle) (x : Quadratic) → sum_after d sum ts ≡ Ok x → x ≡ add sum (total (map (twice_triangle d) ts))
 sum_value d sum [] x e = same_sum sum x e ∙ sym ((quadratic_ring d).add_zero sum)
 sum_value d sum (t ∷ ts) x e = value_continued d sum t (add_triangle d sum t) ts x refl e (λ next. sum_value d next ts x)
 

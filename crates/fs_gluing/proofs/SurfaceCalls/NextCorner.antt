@@ -19,7 +19,7 @@ abbrev pub before : ℕ → ℕ → ℕ
 before n k = if k == 0 then n - 1 else k - 1
 
 -- the number after k
-abbrev after : ℕ → ℕ → ℕ
+abbrev pub after : ℕ → ℕ → ℕ
 after n k = if k + 1 == n then 0 else k + 1
 
 -- the number before 0
@@ -79,19 +79,22 @@ has_before polygons c h =
     has_other polygons c (side_before polygons c) s refl
     (subst (λ n. before n c.side < length s.polygon) (sym (count_is polygons c s)) (before-less (length s.polygon) c.side s.inside))
 
-has_after : {X : Type 0} (polygons : List (List X)) (c : Corner) → HasSide polygons c → HasSide polygons (corner_after polygons c)
+-- the corner where a side ends exists
+pub has_after : {X : Type 0} (polygons : List (List X)) (c : Corner) → HasSide polygons c → HasSide polygons (corner_after polygons c)
 has_after polygons c h =
     let s = in_polygon polygons c h in
     has_other polygons c (corner_after polygons c) s refl
     (subst (λ n. after n c.side < length s.polygon) (sym (count_is polygons c s)) (after-less (length s.polygon) c.side s.inside))
 
-after-before_corner : {X : Type 0} (polygons : List (List X)) (c : Corner) → HasSide polygons c → corner_after polygons (side_before polygons c) ≡ c
+-- the corner where the side before a corner ends is the corner
+pub after-before_corner : {X : Type 0} (polygons : List (List X)) (c : Corner) → HasSide polygons c → corner_after polygons (side_before polygons c) ≡ c
 after-before_corner polygons c h =
     let s = in_polygon polygons c h in
     let l : c.side < side_count polygons c.polygon = subst (λ n. c.side < n) (sym (count_is polygons c s)) s.inside in
     ap (λ k. let e : Corner = record { polygon = c.polygon; side = k } in e) (after-before (side_count polygons c.polygon) c.side l)
 
-before-after_corner : {X : Type 0} (polygons : List (List X)) (c : Corner) → HasSide polygons c → side_before polygons (corner_after polygons c) ≡ c
+-- the side before the corner where a side ends is the side
+pub before-after_corner : {X : Type 0} (polygons : List (List X)) (c : Corner) → HasSide polygons c → side_before polygons (corner_after polygons c) ≡ c
 before-after_corner polygons c h =
     let s = in_polygon polygons c h in
     let l : c.side < side_count polygons c.polygon = subst (λ n. c.side < n) (sym (count_is polygons c s)) s.inside in

@@ -1,5 +1,5 @@
 -- The positions of corners: a side leads from the position of its corner to that of the next corner.
-use Rattle.std.proofs.Common.{◌≡◌, ℕ, zero, suc, ◌+◌, ◌<◌, ◌≤◌, List, [], ◌∷◌, Option, Some, None, length, map, take, get_or, sym, ap, ◌∙◌, refl, subst, arith}
+use Rattle.std.proofs.Common.{◌≡◌, ℕ, Bool, zero, suc, ◌+◌, ◌<◌, ◌≤◌, List, [], ◌∷◌, Option, Some, None, length, map, take, get_or, sym, ap, ◌∙◌, refl, subst, arith}
 use Rattle.std.proofs.lemmas.List.{length-map, take_all}
 use Rattle.std.proofs.lemmas.Option.{same_Some, slice_get-map, get_or_from_slice_get}
 use Rattle.std.specs.Option.{IfSome, option_map}
@@ -89,9 +89,9 @@ first_position polygons c at p e = p.is ∙ ap (λ j. corner_position (side_vect
 next_in : (polygon : List Side) (j : ℕ) (side : Side) → slice_get polygon j ≡ Some side → vector_add (corner_position (side_vectors polygon) j) side.vector ≡ corner_position (side_vectors polygon) (j + 1)
 next_in polygon j side e = total-next vector_zero (side_vectors polygon) j side.vector (slice_get-map (λ (s : Side). s.vector) polygon j ∙ ap (option_map (λ (s : Side). s.vector)) e)
 
-last_in : (d : ℕ) (polygon : List Side) (j : ℕ) (side : Side) → IsPolygon d (side_vectors polygon) → slice_get polygon j ≡ Some side → j + 1 ≡ length polygon
+last_in : (straight : Bool) (d : ℕ) (polygon : List Side) (j : ℕ) (side : Side) → IsPolygon straight d (side_vectors polygon) → slice_get polygon j ≡ Some side → j + 1 ≡ length polygon
     → vector_add (corner_position (side_vectors polygon) j) side.vector ≡ vector_zero
-last_in d polygon j side p e last =
+last_in straight d polygon j side p e last =
     let long : length (side_vectors polygon) ≤ j + 1 = omega (arith, length-map polygon (λ (s : Side). s.vector)) in
     next_in polygon j side e ∙ ap vector_total (take_all (j + 1) (side_vectors polygon) long) ∙ p.closed
 
@@ -101,11 +101,11 @@ LeadsOn polygon j at side =
     (j + 1 < length polygon → vector_add at side.vector ≡ corner_position (side_vectors polygon) (j + 1))
     × (j + 1 ≡ length polygon → vector_add at side.vector ≡ vector_zero)
 
-leads_on : (d : ℕ) (polygon : List Side) (j : ℕ) (at : PlaneVector) (o : Option Side) → IsPolygon d (side_vectors polygon) → at ≡ corner_position (side_vectors polygon) j → slice_get polygon j ≡ o → IfSome o (LeadsOn polygon j at)
-leads_on d polygon j at None p is e = tt
-leads_on d polygon j at (Some side) p is e = (
+leads_on : (straight : Bool) (d : ℕ) (polygon : List Side) (j : ℕ) (at : PlaneVector) (o : Option Side) → IsPolygon straight d (side_vectors polygon) → at ≡ corner_position (side_vectors polygon) j → slice_get polygon j ≡ o → IfSome o (LeadsOn polygon j at)
+leads_on straight d polygon j at None p is e = tt
+leads_on straight d polygon j at (Some side) p is e = (
   (λ more. ap (λ a. vector_add a side.vector) is ∙ next_in polygon j side e),
-  (λ last. ap (λ a. vector_add a side.vector) is ∙ last_in d polygon j side p e last),
+  (λ last. ap (λ a. vector_add a side.vector) is ∙ last_in straight d polygon j side p e last),
 )
 
 -- a side leads to the position of the next corner
@@ -114,6 +114,6 @@ pub next_position : (s : GluedPolygons) (c : Corner) (at : PlaneVector) → IsSu
     (c.side + 1 < length polygon → vector_add at side.vector ≡ corner_position (side_vectors polygon) (c.side + 1))
     × (c.side + 1 ≡ length polygon → vector_add at side.vector ≡ vector_zero)))
 next_position s c at surface p =
-    let polygon = All-slice_get (λ polygon. IsPolygon s.d (side_vectors polygon)) s.polygons c.polygon p.corner.polygon surface.each p.corner.is in
+    let polygon = All-slice_get (λ polygon. IsPolygon s.straight s.d (side_vectors polygon)) s.polygons c.polygon p.corner.polygon surface.each p.corner.is in
     subst (λ o. IfSome o (λ polygon. IfSome (slice_get polygon c.side) (LeadsOn polygon c.side at))) (sym p.corner.is)
-    (leads_on s.d p.corner.polygon c.side at (slice_get p.corner.polygon c.side) polygon p.is refl)
+    (leads_on s.straight s.d p.corner.polygon c.side at (slice_get p.corner.polygon c.side) polygon p.is refl)

@@ -1,22 +1,22 @@
-use Rattle.std.proofs.Common.{[], false, refl, arith}
+use Rattle.std.proofs.Common.{[], false, refl, ◌∙◌}
 use Rattle.std.proofs.KnownBytes.{Appends-nil}
 use Rattle.fs_job.specs.declared.job.Command.TheVariants.{Check}
-use Rattle.fs_cli.proofs.CommandTexts.{done_more, partial_more, broken_off, all_written}
+use Rattle.fs_cli.proofs.CommandTexts.{done_no_fault, partial_no_fault, done_more, partial_more, broken_off, all_written}
 use Rattle.fs_cli.proofs.answering.answer_all.Goals as goal
 use Rattle.fs_cli.proofs.answering.answer_all.Goals.{in-Done, in-Partial}
 
 pub loop-command-init : goal.loop-command-init
-loop-command-init g c = record { written = ([], (false, (refl, refl), refl), Appends-nil _); never_falls = omega arith }
+loop-command-init g c = record { written = ([], (false, (refl, refl), refl), Appends-nil _); kept = refl }
 
 pub returns-in_default : goal.returns-in_default
 returns-in_default g c =
     broken_off c.args.surface.now c.requires c.args.commands.now c.loop-command.command-index Check c.loop-command-test.true _ _ _ c.answer_one.result _ _ _
-    c.answer_one.ensures c.loop-command.invariant.written _ c.loop-command.invariant.never_falls c.in_default.not-Done c.in_default.not-Partial
+    c.answer_one.ensures c.loop-command.invariant.written _ c.loop-command.invariant.kept c.in_default.not-Done c.in_default.not-Partial
 
 pub returns : goal.returns
 returns g c =
     all_written c.args.surface.now c.requires c.args.commands.now c.loop-command.command-index _ _ c.loop-command.status _ _ c.loop-command-test.false
-    c.loop-command.invariant.written c.loop-command.invariant.never_falls
+    c.loop-command.invariant.written c.loop-command.invariant.kept
 
 pub loop-command-preserved : goal.loop-command-preserved
 loop-command-preserved g c =
@@ -24,15 +24,14 @@ loop-command-preserved g c =
     let commands = c.args.commands.now in
     let i = c.loop-command.command-index in
     let result = c.answer_one.result in
-    let falls = c.loop-command.invariant.never_falls in
-    let falls' = c.answer_one.ensures.never_falls in
+    let same = c.loop-command.invariant.kept in
     elim c.match-answer_one.branch [
       | in-Done w ↦ record {
         written = done_more s c.requires commands i Check c.loop-command-test.true _ _ _ result _ _ _ c.answer_one.ensures c.loop-command.invariant.written _ w.in-Done.is w.status-is;
-        never_falls = omega arith;
+        kept = c.answer_one.ensures.kept (done_no_fault w.in-Done.is) ∙ same;
       }
       | in-Partial w ↦ record {
         written = partial_more s c.requires commands i Check c.loop-command-test.true _ _ _ result _ _ _ c.answer_one.ensures c.loop-command.invariant.written _ w.in-Partial.is w.status-is;
-        never_falls = omega arith;
+        kept = c.answer_one.ensures.kept (partial_no_fault w.in-Partial.is) ∙ same;
       }
     ]

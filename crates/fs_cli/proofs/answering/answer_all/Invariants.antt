@@ -1,4 +1,4 @@
-use Rattle.std.proofs.Common.{◌≤◌}
+use Rattle.std.proofs.Common.{◌≡◌}
 use Rattle.fs_cli.proofs.CommandTexts.{AreAnswered}
 use Rattle.fs_cli.proofs.answering.answer_all.Given as goal
 
@@ -8,5 +8,5 @@ invariant-loop-command g l =
     let held = g.O.Sink.held in
     record {
       written : AreAnswered l.surface l.commands l.command-index l.status (held l.initial.out) (held l.out);
-      never_falls : g.O.Sink.faults l.initial.out ≤ g.O.Sink.faults l.out;
+      kept : g.O.Sink.faults l.out ≡ g.O.Sink.faults l.initial.out;
     }

@@ -1,6 +1,6 @@
 use Rattle.std.proofs.Common.{List, ℕ, Err, sym, ap, subst}
 use Rattle.std.specs.Io.KnownBytes.{Consumes}
-use Rattle.fs_cli.proofs.CallWrites.{all_read, nothing_begins, too_long_begins}
+use Rattle.fs_cli.proofs.CallWrites.{all_read, nothing_begins, too_long_begins, too_long_only}
 use Rattle.fs_cli.proofs.run.flat.Goals as goal
 
 pub returns-in-Ok-clause-whole : goal.returns-in-Ok-clause-whole
@@ -9,11 +9,24 @@ returns-in-Ok-clause-whole g c = λ whole.
     let taken = subst (λ (bytes : List ℕ). Consumes (left c.args.input.now) (left c.read_all.new.source) bytes) (sym c.deref.ensures.value) c.in-Ok.ensures.bytes in
     all_read (left c.args.input.now) (left c.read_all.new.source) c.deref.result.now taken c.in-Ok.ensures.end _ (c.answer.ensures.whole whole)
 
+pub returns-in-Ok-clause-only : goal.returns-in-Ok-clause-only
+returns-in-Ok-clause-only g c = λ whole.
+    let left = g.I.Source.left in
+    let taken = subst (λ (bytes : List ℕ). Consumes (left c.args.input.now) (left c.read_all.new.source) bytes) (sym c.deref.ensures.value) c.in-Ok.ensures.bytes in
+    let wrote = c.answer.ensures.whole whole in
+    all_read (left c.args.input.now) (left c.read_all.new.source) c.deref.result.now taken c.in-Ok.ensures.end _
+    (λ output other answered. (c.one_answer.ensures.one c.deref.result.now output wrote.0 other c.answer.result answered wrote.1).1)
+
 pub returns-in-Ok-clause-broken : goal.returns-in-Ok-clause-broken
 returns-in-Ok-clause-broken g c = λ broken.
     let left = g.I.Source.left in
     let taken = subst (λ (bytes : List ℕ). Consumes (left c.args.input.now) (left c.read_all.new.source) bytes) (sym c.deref.ensures.value) c.in-Ok.ensures.bytes in
     all_read (left c.args.input.now) (left c.read_all.new.source) c.deref.result.now taken c.in-Ok.ensures.end _ (c.answer.ensures.broken broken)
+
+pub returns-in-Err-TooLong-clause-only : goal.returns-in-Err-TooLong-clause-only
+returns-in-Err-TooLong-clause-only g c = λ whole.
+    let long = c.in-Err-TooLong.ensures.too_long (ap Err c.in-Err-TooLong.field-0-is) in
+    too_long_only _ _ long.0 c.refuse.result long.1 long.2 (c.refuse.ensures.whole whole).1.1
 
 pub returns-in-Err-TooLong-clause-broken : goal.returns-in-Err-TooLong-clause-broken
 returns-in-Err-TooLong-clause-broken g c = λ broken.

@@ -26,6 +26,7 @@ invariant_of-draft c =
       counted = sides_counted c.args.draft.shape.polygons c.push.new.self (words_of c.args.pairs.words.now) c.in_ok-polygon.polygon c.args.draft.sides c.args.pairs.count c.args.draft.counted c.requires.count c.in_ok-polygon.ensures.points c.in_ok-push.ensures.ok;
       few_sides = fit;
       few_polygons = let len = c.len.ensures in let long = ap length c.in_ok-push.ensures.ok ∙ length-append c.args.draft.shape.polygons (c.in_ok-polygon.polygon ∷ []) in omega arith;
+      unmarked = c.args.draft.unmarked;
     }
 
 pub returns : goal.returns

@@ -19,7 +19,7 @@ mark_vertex-k-requires-clause-there c =
 
 pub mark_vertex-k-requires-clause-fresh : goal.mark_vertex-k-requires-clause-fresh
 mark_vertex-k-requires-clause-fresh c =
-    fresh_of_unmarked c.args.surface.now c.requires.surface c.new-first.result c.loop-j.marks c.loop-j.cones
+    fresh_of_unmarked c.args.surface.now c.requires.surface.surface c.new-first.result c.loop-j.marks c.loop-j.cones
     (has_corner_in_row c.args.surface.now c.new-first.ensures c.requires.there c.sides-j-end.ensures c.loop-j-test.true)
     c.loop-j.invariant.marked (sym c.has.ensures ∙ c.if-not-has.true)
 
@@ -27,7 +27,7 @@ pub loop-j-preserved : goal.loop-j-preserved
 loop-j-preserved c = elim c.if-not-has.branch [
   | then-not-has+in_ok-push w ↦
       let has = has_corner_in_row c.args.surface.now c.new-first.ensures c.requires.there c.sides-j-end.ensures c.loop-j-test.true in
-      let new = found_new c.args.surface.now c.requires.surface c.args.i c.loop-j.j w.mark_vertex-k.result c.loop-j.marks w.mark_vertex-k.new.marks c.loop-j.cones c.new-first.result c.new-first.ensures has
+      let new = found_new c.args.surface.now c.requires.surface.surface c.args.i c.loop-j.j w.mark_vertex-k.result c.loop-j.marks w.mark_vertex-k.new.marks c.loop-j.cones c.new-first.result c.new-first.ensures has
       c.loop-j.invariant (sym c.has.ensures ∙ w.if-not-has.true) w.mark_vertex-k.ensures.number w.mark_vertex-k.ensures.marks in
       found_same c.args.surface.now _ w.marks-is (w.cones-is ∙ w.in_ok-push.ensures.ok) new
   | else-not-has w ↦

@@ -1,7 +1,7 @@
 -- The polygons are tried one after another.
 use Rattle.std.proofs.Common.{◌≡◌, sym, subst, length, arith}
 use Rattle.fs_stratum.specs.VerticesFound.{AreFoundBefore}
-use Rattle.fs_stratum.proofs.AllSides.{corner}
+use Rattle.fs_gluing.proofs.Sides.AllSides.{corner}
 use Rattle.fs_stratum.proofs.VerticesFound.{found_none, found_all}
 use Rattle.fs_stratum.proofs.GenusExists.{genus_exists}
 use Rattle.fs_stratum.proofs.cones.classes.Goals as goal
@@ -15,4 +15,4 @@ returns-clause-cones c =
     found_all c.args.surface.now c.loop-i.i c.loop-i.marks c.loop-i.cones c.loop-i.invariant end
 
 pub returns-clause-genus : goal.returns-clause-genus
-returns-clause-genus c = genus_exists c.args.surface.now c.polygons-i-end.ensures.surface c.loop-i.cones (returns-clause-cones c)
+returns-clause-genus c = genus_exists c.args.surface.now c.polygons-i-end.ensures.surface.surface c.loop-i.cones (returns-clause-cones c)

@@ -2,7 +2,7 @@ use Rattle.std.proofs.Common.{◌+◌, ◌≤◌, length}
 use Rattle.fs_job.specs.Stage.{progress_of}
 use Rattle.fs_job.proofs.TextLines.{lines_left, bytes_left}
 use Rattle.fs_job.proofs.JobLines.{HasPolygonAtEnd, LedTo}
-use Rattle.fs_job.proofs.reading.read_job.Given as goal
+use Rattle.fs_job.proofs.reading.read_lines.Given as goal
 
 -- the lines so far lead to the stage
 abbrev pub invariant-loop-rest : goal.invariant-loop-rest

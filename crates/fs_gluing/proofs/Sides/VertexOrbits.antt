@@ -10,12 +10,8 @@ use Rattle.fs_gluing.specs.NextCorner.{IsNextCorner, side_before}
 use Rattle.fs_gluing.specs.Vertices.{IsNthNextCorner, AreOneVertex}
 use Rattle.fs_gluing.proofs.Base.Equality.{same_corner}
 use Rattle.fs_gluing.proofs.SurfaceCalls.NextCorner.{IsGluing, has_before, has_next_corner, next_corner_one_to_one}
-use Rattle.fs_stratum.proofs.AllSides.{in_all_sides, all_sides_in}
-
--- the partner of a side, or c where there is none
-abbrev pub partner_or : Corner → Option Side → Corner
-partner_or c None = c
-partner_or c (Some side) = side.partner
+use Rattle.fs_gluing.proofs.Sides.AllSides.{in_all_sides, all_sides_in}
+use Rattle.fs_gluing.proofs.Sides.PartnerSides.{partner_or}
 
 -- the next corner round the vertex
 abbrev pub next : List (List Side) → Corner → Corner
