@@ -500,6 +500,7 @@ fn expect_missing(
     name: &'static str,
     line: u32,
 ) -> Result<(), Fail> {
+    assert!(rt; i < 7 && line < 7);
     let missing = changed(alloc, i, i + 1, &[])?;
     expect(rt, alloc, missing.as_slice(), (name, line));
     let blank = changed(alloc, i, i + 1, b"\n")?;
@@ -528,9 +529,11 @@ fn doubled_lines(rt: HostRuntime) -> Result<(), Fail> {
 
 // The square with a line after the next one.
 fn exchanged(alloc: Global, i: usize) -> Result<Vec<u8>, AllocError> {
+    let next = i.saturating_add(1);
+    let after = i.saturating_add(2);
     let prefix = with_lines(Vec::new(alloc), 0, i)?;
-    let both = with_lines(with_lines(prefix, i + 1, i + 2)?, i, i + 1)?;
-    with_lines(both, i + 2, 7)
+    let both = with_lines(with_lines(prefix, next, after)?, i, next)?;
+    with_lines(both, after, 7)
 }
 
 #[test]
@@ -566,6 +569,7 @@ fn cut_text(alloc: Global, i: usize, k: usize) -> Result<Vec<u8>, AllocError> {
 // That the square up to k bytes of a line gives the result of this letter, and with all lines after
 // it too.
 fn expect_cut(rt: &impl Abort, alloc: Global, i: usize, k: usize, letter: u8) -> Result<(), Fail> {
+    assert!(rt; i < 7);
     let number = i as u32 + 1;
     let mut text = cut_text(alloc, i, k)?;
     let ended = i == 6 && k == 3;
