@@ -97,7 +97,7 @@ module _ (result : Status) (held held' : Option (List ℕ)) (faults faults' : �
   writes_command s command text partial meant surface answers is =
       writes_just (HasStatus (Answers s command)) text meant (partial, answers, is)
       (λ output r means.
-      let one = answer_unique s command output text means.0 partial surface means.1 answers in
+      let one = answer_unique s command output text means.0 partial surface.surface means.1 answers in
       (one.0, means.2 ∙ (ap status_of one.1 ∙ sym is)))
 
   module _ (law : JobLaw) (bytes : List ℕ) (few : length bytes ≤ most_bytes) where

@@ -60,7 +60,7 @@ module _ (s : GluedPolygons) (surface : IsSurface s) where
   pub answers_all_unique : (commands : List Command) (m n : List ℕ) (p q : Bool) → AnswersAll s commands m p → AnswersAll s commands n q → (m ≡ n) × (p ≡ q)
   answers_all_unique [] m n p q a b = (a.0 ∙ sym b.0, a.1 ∙ sym b.1)
   answers_all_unique (command ∷ commands) m n p q a b =
-      let one = answer_unique s command a.prefix b.prefix a.prefix_partial b.prefix_partial surface a.one b.one in
+      let one = answer_unique s command a.prefix b.prefix a.prefix_partial b.prefix_partial surface.surface a.one b.one in
       let other = answers_all_unique commands a.rest b.rest a.rest_partial b.rest_partial a.other b.other in
       (cc, cc)
 
@@ -68,7 +68,7 @@ module _ (s : GluedPolygons) (surface : IsSurface s) where
   pub answers_all_exists : (commands : List Command) → ((output : List ℕ) (partial : Bool) → ¬ AnswersAll s commands output partial) → ⊥
   answers_all_exists [] none = none [] false (refl, refl)
   answers_all_exists (command ∷ commands) none =
-      answer_exists s command surface (λ m p one. answers_all_exists commands (λ n q other. none (m ++ n) (p || q)
+      answer_exists s command surface.surface (λ m p one. answers_all_exists commands (λ n q other. none (m ++ n) (p || q)
       (record { prefix = m; rest = n; prefix_partial = p; rest_partial = q; one = one; other = other; whole = refl; kind = refl })))
 
   -- one command more, after the others
@@ -108,7 +108,7 @@ module _ (s : GluedPolygons) (surface : IsSurface s) where
               ∙ ap (λ (text : List ℕ). (text ++ prefix) ++ (this.0 ++ b.rest)) (sym a.0))),
         )
     begin_all (first ∷ commands) m output p q a b =
-        let same = answer_unique s first b.prefix a.prefix b.prefix_partial a.prefix_partial surface b.one a.one in
+        let same = answer_unique s first b.prefix a.prefix b.prefix_partial a.prefix_partial surface.surface b.one a.one in
         let more = begin_all commands a.rest b.rest a.rest_partial b.rest_partial a.other b.other in (
           more.0,
           b.whole

@@ -4,7 +4,7 @@ use Rattle.std.specs.Prelude.{codes}
 use Rattle.fs_lists.proofs.Results.{ok_equal, err_equal, ok_not_err}
 use Rattle.fs_fraction.specs.Fraction.{Fraction}
 use Rattle.fs_plane.specs.declared.sites.Site.{Site}
-use Rattle.fs_gluing.specs.Surface.{GluedPolygons, IsSurface}
+use Rattle.fs_gluing.specs.Surface.{GluedPolygons, IsTranslationSurface}
 use Rattle.fs_stratum.specs.declared.cones.Cone.{Cone}
 use Rattle.fs_stratum.specs.VertexList.{IsGenus}
 use Rattle.fs_stratum.proofs.VertexListUnique.{vertex_list_unique, genus_unique}
@@ -25,7 +25,7 @@ same_text : (cones cones' : List Cone) (orders orders' : List ℕ) (g g' : ℕ) 
     → stratum_text orders g cones area ≡ stratum_text orders' g' cones' area'
 same_text cones cones' orders orders' g g' area area' c o e a = λ i. stratum_text (o i) (e i) (c i) (a i)
 
-stratum_unique : (s : GluedPolygons) (m n : List ℕ) (p q : Bool) → IsSurface s → AnswersStratum s m p → AnswersStratum s n q → (m ≡ n) × (p ≡ q)
+stratum_unique : (s : GluedPolygons) (m n : List ℕ) (p q : Bool) → IsTranslationSurface s → AnswersStratum s m p → AnswersStratum s n q → (m ≡ n) × (p ≡ q)
 stratum_unique s m n p q surface (whole cones orders g area are all genus is text kind) (whole cones' orders' g' area' are' all' genus' is' text' kind') =
     let same = vertex_list_unique s surface cones cones' are are' in
     let as_many = ap (λ (cs : List Cone). length cs) same in
@@ -41,7 +41,7 @@ stratum_unique s m n p q surface (overflowed site is text kind) (whole cones ord
 stratum_unique s m n p q surface (overflowed site is text kind) (overflowed site' is' text' kind') =
     (text ∙ (ap (λ (x : Site). overflow_line (codes "stratum") x) (err_equal site site' (area_unique s (Err site) (Err site') is is')) ∙ sym text'), kind ∙ sym kind')
 
-stratum_exists : (s : GluedPolygons) → IsSurface s → ((text : List ℕ) (partial : Bool) → ¬ AnswersStratum s text partial) → ⊥
+stratum_exists : (s : GluedPolygons) → IsTranslationSurface s → ((text : List ℕ) (partial : Bool) → ¬ AnswersStratum s text partial) → ⊥
 stratum_exists s surface none = area_exists s by_area
   where
     by_area : (result : Result Fraction Site) → ¬ GivesArea s result
@@ -54,11 +54,11 @@ stratum_exists s surface none = area_exists s by_area
 -- ---- each command
 
 -- a command has one answer at most
-pub answer_unique : (s : GluedPolygons) (command : Command) (m n : List ℕ) (p q : Bool) → IsSurface s → Answers s command m p → Answers s command n q → (m ≡ n) × (p ≡ q)
+pub answer_unique : (s : GluedPolygons) (command : Command) (m n : List ℕ) (p q : Bool) → IsTranslationSurface s → Answers s command m p → Answers s command n q → (m ≡ n) × (p ≡ q)
 answer_unique s Check m n p q surface a b = (a.0 ∙ sym b.0, a.1 ∙ sym b.1)
 answer_unique s Stratum m n p q surface a b = stratum_unique s m n p q surface a b
 
 -- a command has an answer
-pub answer_exists : (s : GluedPolygons) (command : Command) → IsSurface s → ((text : List ℕ) (partial : Bool) → ¬ Answers s command text partial) → ⊥
+pub answer_exists : (s : GluedPolygons) (command : Command) → IsTranslationSurface s → ((text : List ℕ) (partial : Bool) → ¬ Answers s command text partial) → ⊥
 answer_exists s Check surface none = none _ _ (refl, refl)
 answer_exists s Stratum surface none = stratum_exists s surface none

@@ -13,5 +13,5 @@ pub returns : goal.returns
 returns c =
     let found = c.in_ok-cones.ensures in
     let are = subst (AreVertices c.args.surface.now) (sym c.as_slice-cones.ensures) found.cones in
-    all_spelled c.args.surface.now c.args.area c.as_slice-cones.result.now c.in_ok-orders.orders c.as_slice.result.now c.genus.result _ _ are (c.genus.ensures c.args.surface.now found.surface are)
+    all_spelled c.args.surface.now c.args.area c.as_slice-cones.result.now c.in_ok-orders.orders c.as_slice.result.now c.genus.result _ _ are (c.genus.ensures c.args.surface.now found.surface.surface are)
     c.in_ok-orders.ensures c.as_slice.ensures c.in_ok-text.ensures c.in_ok-add_vertices.ensures
