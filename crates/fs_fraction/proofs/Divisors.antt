@@ -1,7 +1,7 @@
 -- Euclid's remainders end at the greatest common divisor.
 use Rattle.std.proofs.Common.{◌≡◌, ℕ, ◌*◌, ◌/◌, ◌%◌, ◌<◌, ◌≤◌, zero, suc, refl, subst, arith}
 use Rattle.std.proofs.Math.Nat.{mod-lt, mul-pos, div-mul_cancel, mul-dvd-mul_right, eq-zero_of_zero-dvd}
-use Rattle.std.proofs.lemmas.Nat.Gcd.{IsGcd-from_zero, IsGcd-from_mod, dvd_trans, le_of_dvd}
+use Rattle.std.proofs.lemmas.Nat.Gcd.{IsGcd-from_zero, IsGcd-from_mod, same_from_IsGcd, dvd_trans, le_of_dvd}
 use Rattle.std.specs.Int.{IsGcd, ◌∣◌}
 use Rattle.fs_fraction.specs.Divisor.{IsGreatestDivisor, gcd_within, gcd}
 
@@ -19,6 +19,13 @@ gcd-is a b = gcd_within-is b a b (omega arith)
 
 pub gcd-greatest : (a b : ℕ) → IsGreatestDivisor a b (gcd a b)
 gcd-greatest a b = let g = gcd-is a b in record { first = g.0; second = g.1; greatest = g.2 }
+
+-- one step of Euclid's remainders
+pub gcd-of_rest : (a b : ℕ) → gcd b (a % b) ≡ gcd a b
+gcd-of_rest a b = same_from_IsGcd a b _ _ (IsGcd-from_mod a b (gcd b (a % b)) (gcd-is b (a % b))) (gcd-is a b)
+
+pub gcd-of_zero : (a b : ℕ) → b ≡ 0 → a ≡ gcd a b
+gcd-of_zero a b e = same_from_IsGcd a b _ _ (IsGcd-from_zero a b e) (gcd-is a b)
 
 -- ---- the greatest common divisor of three numbers
 

@@ -16,12 +16,13 @@ fn is_text_byte(byte: u8) -> bool
 pub fn is_text(line: &[u8]) -> bool
     ensures { IsTrue result ↔ IsText line.now }
 {
+    // No early exit: many bytes are looked at at once.
+    let mut all = true;
     for byte in line {
-        if !is_text_byte(*byte) {
-            return false;
-        }
+        let one = is_text_byte(*byte);
+        all = all && one;
     }
-    true
+    all
 }
 
 // A space or a tab.

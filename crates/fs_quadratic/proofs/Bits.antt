@@ -1,5 +1,5 @@
 -- Numbers within the width, and the bits that the code holds them by.
-use Rattle.std.proofs.Common.{◌≡◌, ℕ, ◌^◌, ◌<◌, ℤ, pos, negsuc, ◌+ℤ◌, ◌-ℤ◌, ◌*ℤ◌, arith, sym, subst, to_z, of_z}
+use Rattle.std.proofs.Common.{◌≡◌, ℕ, ◌^◌, ◌<◌, ℤ, pos, negsuc, ◌+ℤ◌, ◌-ℤ◌, ◌*ℤ◌, arith, sym, subst, ◌∙◌, to_z, of_z}
 use Rattle.std.proofs.lemmas.Int.{ints, fits_signed_from_abs}
 use Rattle.std.specs.Prelude.{unsigned_abs, FitsSigned}
 use Rattle.std.specs.Int.{w128}
@@ -33,6 +33,10 @@ fits a z e h = subst (FitsSigned w128) (sym e) (fits_signed_from_abs w128 z (abs
 -- products and sums within the width, of factors and summands that are read from their bits
 pub of_bits-mul : {a b y z : ℤ} → a ≡ y → b ≡ z → InWidth (y *ℤ z) → of_bits (a *ℤ b) ≡ y *ℤ z
 of_bits-mul e f h = of_bits-is (mul_eq e f) h
+
+-- the same, where a call gave the product of the factors' bits
+pub of_bits-product : {r a b y z : ℤ} → r ≡ of_bits a *ℤ of_bits b → a ≡ y → InWidth y → b ≡ z → InWidth z → InWidth (y *ℤ z) → of_bits r ≡ y *ℤ z
+of_bits-product e f u g v h = of_bits-is (e ∙ mul_eq (of_bits-is f u) (of_bits-is g v)) h
 
 pub fits-mul : {a b y z : ℤ} → a ≡ y → b ≡ z → InWidth (y *ℤ z) → FitsSigned w128 (a *ℤ b)
 fits-mul {a} {b} {y} {z} e f h = fits (a *ℤ b) (y *ℤ z) (mul_eq e f) h

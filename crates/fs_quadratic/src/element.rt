@@ -1,4 +1,4 @@
-ghost use Rattle.std.specs.Prelude.{◌≡◌, ◌↔◌, IfErr, IsTrue};
+ghost use Rattle.std.specs.Prelude.{◌≡◌, ◌↔◌, ◌<◌, ◌^◌, IfErr, IsTrue, unsigned_abs};
 ghost use Rattle.std.specs.Result.{OkIff};
 ghost use Rattle.fs_quadratic.specs.Ring.{Quadratic, add, sub, neg};
 ghost use Rattle.fs_quadratic.specs.Width.{InWidth, Fits, IsSmall};
@@ -39,7 +39,14 @@ pub enum Op {
 }
 
 // Small parts are below it in size.
-const SMALL: u128 = 1 << 58;
+const SMALL: i128 = 1 << 58;
+
+// Whether a part is below 2^58 in size.
+fn is_small_part(part: i128) -> bool
+    ensures { IsTrue result ↔ (unsigned_abs part < 2 ^ 58) }
+{
+    -SMALL < part && part < SMALL
+}
 
 impl Elem {
     /// 0.
@@ -74,7 +81,7 @@ impl Elem {
     pub fn is_small(self) -> bool
         ensures { IsTrue result ↔ IsSmall self }
     {
-        self.p.unsigned_abs() < SMALL && self.q.unsigned_abs() < SMALL
+        is_small_part(self.p) && is_small_part(self.q)
     }
 
     /// The exact sum, or `Op::Add` exactly where one of its parts overflows.

@@ -1,8 +1,8 @@
-ghost use Rattle.std.specs.Prelude.{◌≡◌, IfErr};
+ghost use Rattle.std.specs.Prelude.{◌≡◌, ◌*ℤ◌, ◌<◌, ◌^◌, IfErr, unsigned_abs};
 ghost use Rattle.std.specs.Option.{SomeIff};
 ghost use Rattle.std.specs.Result.{OkIff};
 ghost use Rattle.fs_quadratic.specs.Ring.{mul, rational_part, r_part};
-ghost use Rattle.fs_quadratic.specs.Width.{RationalPartFits, RPartFits, MulFits, IsSmall};
+ghost use Rattle.fs_quadratic.specs.Width.{InWidth, RationalPartFits, RPartFits, MulFits, IsSmall};
 
 use crate::element::{Elem, Op};
 use crate::radicand::Field;
@@ -33,10 +33,20 @@ impl Field {
         ensures { result ≡ mul self.d x y }
     {
         Elem::new(
-            x.p() * y.p() + i128::from(self.d) * (x.q() * y.q()),
-            x.p() * y.q() + x.q() * y.p(),
+            small_product(x.p(), y.p()) + i128::from(self.d) * small_product(x.q(), y.q()),
+            small_product(x.p(), y.q()) + small_product(x.q(), y.p()),
         )
     }
+}
+
+// The product of two small parts, by one multiplication of 64 bits.
+fn small_product(a: i128, b: i128) -> i128
+    requires a { unsigned_abs a < 2 ^ 58 }
+    requires b { unsigned_abs b < 2 ^ 58 }
+    ensures value { result ≡ a *ℤ b }
+    ensures within { InWidth result }
+{
+    i128::from(a as i64) * i128::from(b as i64)
 }
 
 // The rational part of the product.

@@ -1,46 +1,19 @@
--- Marks in rows, one for each polygon: at first none is set, and then one after another.
-use Rattle.std.proofs.Common.{◌≡◌, inl, inr, ℕ, zero, suc, ◌+◌, ◌<◌, ◌≤◌, Bool, true, false, Some, List, [], ◌∷◌, ◌++◌, length, map, set, get_or, replicate, take, unwrap_or, sym, ap, ◌∙◌, refl, subst, arith}
+-- Marks that stand one after another, seen as rows, one for each polygon: at first none is set, and then one after another.
+use Rattle.std.proofs.Common.{◌≡◌, inl, inr, ℕ, zero, suc, ◌+◌, ◌-◌, ◌*◌, ◌<◌, ◌≤◌, Bool, true, false, Some, List, ◌∷◌, length, set, get_or, replicate, take, drop, unwrap_or, sym, ap, ◌∙◌, refl, subst, arith}
+use Rattle.std.proofs.Math.Nat.{mul-le-mul}
+use Rattle.std.proofs.Math.Seq.{take-set-lt}
 use Rattle.std.proofs.lemmas.Bool.{cases_eq}
-use Rattle.std.proofs.lemmas.Option.{same_Some, slice_get-map, slice_get-get_or, get_or_from_slice_get, slice_get_within}
-use Rattle.std.proofs.lemmas.List.{length-map, map-set, map-append, take_more, take_all}
-use Rattle.std.specs.Option.{IsSome, IfSome, option_and_then, option_map}
+use Rattle.std.proofs.lemmas.Option.{same_Some, slice_get_within, unwrap_or-slice_get}
+use Rattle.std.proofs.lemmas.List.{length-take, take-set-le, drop-set-lt, drop-set-add, take-replicate, drop-replicate, drop-drop, get_or-take, get_or-drop}
+use Rattle.std.specs.Option.{IsSome, option_and_then}
 use Rattle.std.specs.List.{slice_get}
-use Rattle.fs_lists.proofs.Items.{some_of_inside, value_of, slice_get-set_same, slice_get-set_other, some_of_set}
+use Rattle.fs_lists.proofs.Items.{slice_get-set_same, slice_get-set_other, some_of_set}
 use Rattle.fs_plane.specs.declared.corners.Corner.{Corner}
 use Rattle.fs_gluing.specs.Polygons.{at_side, HasSide}
 use Rattle.fs_gluing.proofs.Base.Equality.{corner_eq}
 use Rattle.fs_gluing.proofs.SurfaceCalls.NextCorner.{in_polygon}
 use Rattle.fs_stratum.specs.CornerMarks.{is_marked, AreUnmarked, MarksCorner}
-
--- a row of marks for each polygon, none of which is set
-abbrev pub unmarked_rows : {X : Type 0} → List (List X) → List (List Bool)
-unmarked_rows polygons = map (λ polygon. replicate (length polygon) false) polygons
-
-unmarked_row : (n j : ℕ) → unwrap_or (slice_get (replicate n false) j) false ≡ false
-unmarked_row zero j = refl
-unmarked_row (suc n) zero = refl
-unmarked_row (suc n) (suc j) = unmarked_row n j
-
-unmarked_at : {X : Type 0} (polygons : List (List X)) (i j : ℕ) → is_marked (unmarked_rows polygons) (record { polygon = i; side = j }) ≡ false
-unmarked_at [] i j = refl
-unmarked_at (polygon ∷ polygons) zero j = unmarked_row (length polygon) j
-unmarked_at (polygon ∷ polygons) (suc i) j = unmarked_at polygons i j
-
-unmarked_some : {X : Type 0} (xs : List X) (j : ℕ) → IsSome (slice_get xs j) → IsSome (slice_get (replicate (length xs) false) j)
-unmarked_some [] j h = cc
-unmarked_some (x ∷ xs) zero h = refl
-unmarked_some (x ∷ xs) (suc j) h = unmarked_some xs j h
-
-unmarked_has : {X : Type 0} (polygons : List (List X)) (i j : ℕ) → HasSide polygons (record { polygon = i; side = j }) → HasSide (unmarked_rows polygons) (record { polygon = i; side = j })
-unmarked_has [] i j h = cc
-unmarked_has (polygon ∷ polygons) zero j h = unmarked_some polygon j h
-unmarked_has (polygon ∷ polygons) (suc i) j h = unmarked_has polygons i j h
-
-rows_unmarked : {X : Type 0} (polygons : List (List X)) → AreUnmarked polygons (unmarked_rows polygons)
-rows_unmarked polygons = record {
-  covers = record { each = λ c h. unmarked_has polygons c.polygon c.side h };
-  none = λ c. unmarked_at polygons c.polygon c.side;
-}
+use Rattle.fs_stratum.specs.MarkRows.{rows}
 
 -- ---- one more mark
 
@@ -74,43 +47,132 @@ module _ (marks : List (List Bool)) (c : Corner) (row : List Bool) (is : slice_g
     ]);
   }
 
--- ---- one more mark, where rows are seen as their items
-module _ {W : Type 0} (items : W → List Bool) (rows : List W) (old : List (List Bool)) (view : map items rows ≡ old) (c : Corner) (has : HasSide old c) (row : W) (read : row ≡ get_or rows c.polygon row) where
-  row_at : slice_get old c.polygon ≡ Some (items row)
-  row_at =
-      let st = in_polygon old c has in
-      let l = slice_get_within old c.polygon st.polygon st.is in
-      let long : length old ≡ length rows = ap length (sym view) ∙ length-map rows items in
-      ap (λ m. slice_get m c.polygon) (sym view) ∙ slice_get-map items rows c.polygon
-      ∙ ap (option_map items) (slice_get-get_or rows c.polygon row (omega arith) ∙ ap Some (sym read))
+-- ---- rows of marks that stand one after another
 
-  row_inside : c.side < length (items row)
-  row_inside =
-      let st = in_polygon old c has in
-      subst (λ r. c.side < length r) (same_Some st.polygon (items row) (sym st.is ∙ row_at)) st.inside
+rows_count : (n width : ℕ) (marks : List Bool) → length (rows n width marks) ≡ n
+unfolding rows
+rows_count zero width marks = refl
+rows_count (suc n) width marks = ap suc (rows_count n width (drop width marks))
 
-  -- setting the mark at c marks corner c
-  pub mark_set : (row' : W) → items row' ≡ set (items row) c.side true → MarksCorner c old (map items (set rows c.polygon row'))
-  mark_set row' is =
-      subst (MarksCorner c old)
-      (sym (map-set items rows c.polygon row' ∙ ap (λ m. set m c.polygon (items row')) view ∙ ap (set old c.polygon) is))
-      (set_mark old c (items row) row_at row_inside)
+-- row i
+abbrev row_of : ℕ → List Bool → ℕ → List Bool
+row_of width marks i = take width (drop (i * width) marks)
 
--- ---- one more row
+row_is : (n width : ℕ) (marks : List Bool) (i : ℕ) → i < n → slice_get (rows n width marks) i ≡ Some (row_of width marks i)
+unfolding rows
+row_is zero width marks i h = absurd (omega arith)
+row_is (suc n) width marks zero h =
+    let begin : zero ≡ zero * width = omega arith in
+    ap (λ k. Some (take width (drop k marks))) begin
+row_is (suc n) width marks (suc i) h =
+    let next : width + i * width ≡ suc i * width = omega arith in
+    row_is n width (drop width marks) i (omega arith)
+    ∙ ap (λ m. Some (take width m)) (drop-drop (i * width) width marks ∙ ap (λ k. drop k marks) next)
 
--- one more row without marks
-pub unmarked_more : {X W : Type 0} (items : W → List Bool) (rows longer : List W) (row : W) (polygons : List (List X)) (i n : ℕ) → map items rows ≡ unmarked_rows (take i polygons) → i < length polygons
-    → IfSome (slice_get polygons i) (λ polygon. n ≡ length polygon) → items row ≡ replicate n false → longer ≡ rows ++ row ∷ [] → map items longer ≡ unmarked_rows (take (i + 1) polygons)
-unmarked_more {X} items rows longer row polygons i n before l is row_is longer_is =
-    let r = value_of (slice_get polygons i) (some_of_inside polygons i l) in
-    let long : n ≡ length r.value = subst (λ o. IfSome o (λ (polygon : List X). n ≡ length polygon)) r.is is in
-    let here : get_or polygons i r.value ≡ r.value = get_or_from_slice_get polygons i r.value r.value r.is in
-    let row_unmarked : items row ≡ replicate (length r.value) false = row_is ∙ ap (λ m. replicate m false) long in
-    let left : map items longer ≡ map items rows ++ items row ∷ [] = ap (map items) longer_is ∙ map-append items rows (row ∷ []) in
-    let right : unmarked_rows (take (i + 1) polygons) ≡ unmarked_rows (take i polygons) ++ replicate (length r.value) false ∷ [] =
-    ap unmarked_rows (take_more polygons i r.value l ∙ ap (λ (p : List X). take i polygons ++ p ∷ []) here) ∙ map-append (λ (polygon : List X). replicate (length polygon) false) (take i polygons) (r.value ∷ []) in
-    left ∙ (λ k. before k ++ row_unmarked k ∷ []) ∙ sym right
+-- setting a mark sets it in its row
+rows_set : (n width : ℕ) (marks : List Bool) (i j : ℕ) (b : Bool) → i < n → j < width → rows n width (set marks (i * width + j) b) ≡ set (rows n width marks) i (set (row_of width marks i) j b)
+unfolding rows
+rows_set zero width marks i j b h k = absurd (omega arith)
+rows_set (suc n) width marks zero j b h k =
+    let first : zero * width + j ≡ j = omega arith in
+    let begin : zero ≡ zero * width = omega arith in
+    let row : take width marks ≡ row_of width marks zero = ap (λ m. take width (drop m marks)) begin in
+    rw first (
+    (λ t. take-set-lt width marks j b k t ∷ rows n width (drop-set-lt width marks j b k t))
+    ∙ ap (λ r. set r j b ∷ rows n width (drop width marks)) row
+    )
+rows_set (suc n) width marks (suc i) j b h k =
+    let next : suc i * width + j ≡ width + (i * width + j) = omega arith in
+    let begin : width + i * width ≡ suc i * width = omega arith in
+    let row : row_of width (drop width marks) i ≡ row_of width marks (suc i) = ap (take width) (drop-drop (i * width) width marks ∙ ap (λ m. drop m marks) begin) in
+    rw next (
+    (λ t. take-set-le width marks (width + (i * width + j)) b (omega arith) t ∷ rows n width (drop-set-add width marks (i * width + j) b t))
+    ∙ ap (λ m. take width marks ∷ m) (rows_set n width (drop width marks) i j b (omega arith) k ∙ ap (λ r. set (rows n width (drop width marks)) i (set r j b)) row)
+    )
 
--- after all polygons no corner is marked
-pub unmarked_all : {X W : Type 0} (items : W → List Bool) (rows : List W) (polygons : List (List X)) (n : ℕ) → map items rows ≡ unmarked_rows (take n polygons) → length polygons ≤ n → AreUnmarked polygons (map items rows)
-unmarked_all items rows polygons n e l = subst (AreUnmarked polygons) (sym (e ∙ ap unmarked_rows (take_all n polygons l))) (rows_unmarked polygons)
+-- a corner of the rows, with its row
+record IsInRow (n width : ℕ) (marks : List Bool) (c : Corner) : Type 0 where
+  polygon : c.polygon < n
+  row : slice_get (rows n width marks) c.polygon ≡ Some (row_of width marks c.polygon)
+  inside : c.side < length (row_of width marks c.polygon)
+  side : c.side < width
+
+module _ (n width : ℕ) (marks : List Bool) (c : Corner) (has : HasSide (rows n width marks) c) where
+  in_row : IsInRow n width marks c
+  in_row =
+      let st = in_polygon (rows n width marks) c has in
+      let l : c.polygon < n = subst (λ k. c.polygon < k) (rows_count n width marks) (slice_get_within (rows n width marks) c.polygon st.polygon st.is) in
+      let row = row_is n width marks c.polygon l in
+      let inside : c.side < length (row_of width marks c.polygon) = subst (λ r. c.side < length r) (same_Some st.polygon (row_of width marks c.polygon) (sym st.is ∙ row)) st.inside in
+      let long = length-take width (drop (c.polygon * width) marks) in
+      record { polygon = l; row = row; inside = inside; side = omega arith }
+
+  -- the index of a mark
+  abbrev index : ℕ
+  index = c.polygon * width + c.side
+
+  pub index_inside : length marks ≡ n * width → index < length marks
+  index_inside long =
+      let st = in_row in
+      let polygon = st.polygon in
+      let side = st.side in
+      let most : (c.polygon + 1) * width ≤ n * width = mul-le-mul {m₁ = width} {m₂ = width} (omega arith) (omega arith) in
+      omega arith
+
+  pub mark_read : get_or marks index false ≡ is_marked (rows n width marks) c
+  mark_read =
+      let st = in_row in
+      sym (
+      ap (λ o. unwrap_or o false) (ap (option_and_then (λ r. slice_get r c.side)) st.row)
+      ∙ unwrap_or-slice_get (row_of width marks c.polygon) c.side false
+      ∙ get_or-take width (drop (c.polygon * width) marks) c.side false st.side
+      ∙ get_or-drop (c.polygon * width) marks c.side false
+      )
+
+  pub mark_set : MarksCorner c (rows n width marks) (rows n width (set marks index true))
+  mark_set =
+      let st = in_row in
+      subst (MarksCorner c (rows n width marks)) (sym (rows_set n width marks c.polygon c.side true st.polygon st.side))
+      (set_mark (rows n width marks) c (row_of width marks c.polygon) st.row st.inside)
+
+-- ---- no mark is set
+
+unmarked_row : (n j : ℕ) → unwrap_or (slice_get (replicate n false) j) false ≡ false
+unmarked_row zero j = refl
+unmarked_row (suc n) zero = refl
+unmarked_row (suc n) (suc j) = unmarked_row n j
+
+rows_unset : (n width : ℕ) → rows n width (replicate (n * width) false) ≡ replicate n (replicate width false)
+unfolding rows
+rows_unset zero width = refl
+rows_unset (suc n) width =
+    let rest : suc n * width - width ≡ n * width = omega arith in
+    let more : width ≤ suc n * width = omega arith in
+    (λ t. take-replicate width (suc n * width) false more t ∷ rows n width ((drop-replicate width (suc n * width) false ∙ ap (λ k. replicate k false) rest) t))
+    ∙ ap (λ m. replicate width false ∷ m) (rows_unset n width)
+
+unmarked_at : (n width i j : ℕ) → is_marked (replicate n (replicate width false)) (record { polygon = i; side = j }) ≡ false
+unmarked_at zero width i j = refl
+unmarked_at (suc n) width zero j = unmarked_row width j
+unmarked_at (suc n) width (suc i) j = unmarked_at n width i j
+
+replicate_row : {X : Type 0} (n : ℕ) (x : X) (i : ℕ) → i < n → slice_get (replicate n x) i ≡ Some x
+replicate_row zero x i h = absurd (omega arith)
+replicate_row (suc n) x zero h = refl
+replicate_row (suc n) x (suc i) h = replicate_row n x i (omega arith)
+
+-- marks as many for each polygon as any has sides
+pub rows_unmarked : {X : Type 0} (polygons : List (List X)) (width : ℕ) → ((i : ℕ) (polygon : List X) → slice_get polygons i ≡ Some polygon → length polygon ≤ width)
+    → AreUnmarked polygons (rows (length polygons) width (replicate (length polygons * width) false))
+rows_unmarked polygons width most = rw (rows_unset (length polygons) width) (record {
+  covers = record {
+    each = λ c h.
+        let st = in_polygon polygons c h in
+        let i : c.polygon < length polygons = slice_get_within polygons c.polygon st.polygon st.is in
+        let j : c.side < width = let l = most c.polygon st.polygon st.is in let k = st.inside in omega arith in
+        subst IsSome
+        (sym (ap (option_and_then (λ r. slice_get r c.side)) (replicate_row (length polygons) (replicate width false) c.polygon i) ∙ replicate_row width false c.side j))
+        refl;
+  };
+  none = λ c. unmarked_at (length polygons) width c.polygon c.side;
+})

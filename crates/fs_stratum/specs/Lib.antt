@@ -2,3 +2,4 @@
 pub mod VertexList
 pub mod CornerMarks
 pub mod VerticesFound
+pub mod MarkRows

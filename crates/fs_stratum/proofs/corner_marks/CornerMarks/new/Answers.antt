@@ -1,15 +1,15 @@
--- The rows are made one after another.
-use Rattle.std.proofs.Common.{length, ◌<◌, ◌≤◌, arith}
-use Rattle.fs_stratum.proofs.MarkRows.{unmarked_more, unmarked_all}
+-- No mark is set.
+use Rattle.std.proofs.Common.{◌≡◌, ◌∙◌, ◌*◌, false, replicate, sym, ap, subst, length}
+use Rattle.fs_stratum.specs.CornerMarks.{AreUnmarked}
+use Rattle.fs_stratum.specs.MarkRows.{rows}
+use Rattle.fs_stratum.proofs.MarkRows.{rows_unmarked}
 use Rattle.fs_stratum.proofs.corner_marks.CornerMarks.new.Goals as goal
-
-pub loop-i-preserved : goal.loop-i-preserved
-loop-i-preserved c =
-    let inside : c.loop-i.i < length c.args.surface.now.polygons = omega arith in
-    unmarked_more (λ row. row.items) c.loop-i.rows.items c.push.new.self.items c.in_ok-vec.field-0 c.args.surface.now.polygons c.loop-i.i c.sides.result c.loop-i.invariant inside c.sides.ensures
-    (c.in_ok-vec.ensures.items_if_clones_equal (λ b e. e)) c.in_ok-push.ensures.items
 
 pub returns : goal.returns
 returns c =
-    let past : length c.args.surface.now.polygons ≤ c.loop-i.i = omega arith in
-    unmarked_all (λ row. row.items) c.loop-i.rows.items c.args.surface.now.polygons c.loop-i.i c.loop-i.invariant past
+    let polygons = c.args.surface.now.polygons in
+    let width = c.most_sides-width.result in
+    let items : c.in_ok-marks.marks.items ≡ replicate (length polygons * width) false =
+    c.in_ok-marks.ensures.items_if_clones_equal (λ b e. e) ∙ ap (λ n. replicate (n * width) false) c.polygons-polygons.ensures.polygons in
+    subst (λ n. AreUnmarked polygons (rows n width c.in_ok-marks.marks.items)) (sym c.polygons-polygons.ensures.polygons)
+    (subst (λ m. AreUnmarked polygons (rows (length polygons) width m)) (sym items) (rows_unmarked polygons width c.most_sides-width.ensures))

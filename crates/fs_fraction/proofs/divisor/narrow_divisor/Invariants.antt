@@ -1,0 +1,10 @@
+use Rattle.std.proofs.Common.{ℕ}
+use Rattle.std.specs.Int.{IsGcd}
+use Rattle.fs_fraction.proofs.divisor.narrow_divisor.Given as goal
+
+-- the two numbers of each step have the greatest common divisor of the first two
+abbrev pub invariant-loop-smaller : goal.invariant-loop-smaller
+invariant-loop-smaller l = (g : ℕ) → IsGcd l.larger l.smaller g → IsGcd l.fn.a l.fn.b g
+
+abbrev pub decreases-loop-smaller : goal.decreases-loop-smaller
+decreases-loop-smaller l = l.smaller
