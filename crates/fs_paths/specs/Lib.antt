@@ -1,0 +1,4 @@
+pub mod SideGluing
+pub mod Development
+pub mod StraightPaths
+pub mod Segments
