@@ -1,1 +1,3 @@
 pub mod Developments
+pub mod PutPolygons
+pub mod Passages

@@ -2,3 +2,4 @@ pub mod SideGluing
 pub mod Development
 pub mod StraightPaths
 pub mod Segments
+pub mod Passages

@@ -1,0 +1,146 @@
+-- How a straight path passes through a put polygon: where its line leaves, and that the path comes into the next polygon. A library for crates to come.
+use Rattle.std.proofs.Common.{◌≡◌, ◌⊎◌, ℕ, Bool, zero, suc, ◌-◌, ◌<◌, ◌≤◌, [], ◌∷◌, refl, sym, ap, ◌∙◌, subst, inl, inr, arith}
+use Rattle.fs_ring.specs.Operations.{Operations}
+use Rattle.fs_ring.specs.OrderedRing.{IsOrderedRing, positive, null, negative, IsNonNegative}
+use Rattle.fs_ring.specs.Vector.{Vector, zero_vector, add_vector, sub_vector, neg_vector, cross, dot}
+use Rattle.fs_ring.proofs.Signs as signs
+use Rattle.fs_ring.proofs.Plane as plane
+use Rattle.fs_ring.proofs.Directions as directions
+use Rattle.fs_ring.proofs.Turns as turns
+use Rattle.fs_ring.proofs.Solver.{expressions as E, numeral, ◌⊕◌, ◌⊗◌, ◌≐◌}
+use Rattle.fs_convex.specs.Turning.{DecidesHalfPlanes}
+use Rattle.fs_convex.specs.Polygon.{position, IsConvexPolygon, IsExit}
+use Rattle.fs_convex.proofs.Exits as exits
+use Rattle.fs_paths.specs.SideGluing.{SideGluing, IsSide, nth_side, sides_from, AreGluedPolygons, StrictlyInSectorOf}
+use Rattle.fs_paths.specs.Development.{IsPutAt}
+use Rattle.fs_paths.specs.StraightPaths.{Crosses}
+use Rattle.fs_paths.specs.Passages.{ComesInto, begins, enters, Leaves, LeavesBySide, LeavesAtCorner, by_side, at_corner}
+use Rattle.fs_paths.proofs.Developments as developments
+use Rattle.fs_paths.proofs.PutPolygons as put_polygons
+
+at_least_two : (n : ℕ) → 0 < n → (n ≡ 1 → ⊥) → 2 ≤ n
+at_least_two zero l h = absurd (omega arith)
+at_least_two (suc zero) l h = absurd (h refl)
+at_least_two (suc (suc n)) l h = omega arith
+
+zero_or_more : (k : ℕ) → (k ≡ 0) ⊎ (1 ≤ k)
+zero_or_more k = grind arith
+
+below_or_same : (k m : ℕ) → k < suc m → (k < m) ⊎ (k ≡ m)
+below_or_same k m l = grind arith
+
+module _ {A : Type 0} {R : Operations A} {IsPositive : A → Type 0} (L : IsOrderedRing R IsPositive)
+    {is_ahead : Vector A → Vector A → Bool} (test : DecidesHalfPlanes R IsPositive is_ahead)
+    {X : Type 0} {G : SideGluing X A} (g : AreGluedPolygons R IsPositive is_ahead G) where
+  abbrev Put : X → Vector A → X → Vector A → Type 0
+  Put b B x Q = IsPutAt R G b B x Q
+
+  -- ---- where the line leaves
+
+  module _ (v : Vector A) (b : X) (B : Vector A) (h : IsSide G b) where
+    abbrev n : ℕ
+    n = g.sides b
+
+    abbrev q : ℕ → Vector A
+    q = position R B (sides_from G b)
+
+    abbrev polygon : IsConvexPolygon R IsPositive is_ahead n (sides_from G b) q
+    polygon = developments.put_polygon L test g b B h
+
+    -- where there is an exit before corner m, the last or the first again, which is left, and corner 0 is neither right nor met
+    module _ {i m : ℕ} (e : IsExit R IsPositive v q i m) (most : m ≤ n) (all : n ≤ suc m) (end_left : IsPositive (cross R v (q m)))
+        (first_not_right : IsPositive (cross R B v) → ⊥) (first_not_met : cross R v B ≡ R.zero → IsPositive (dot R v B) → ⊥) where
+      crossed_number : (k : ℕ) → k < n → IsPositive (cross R (q k) v) → IsPositive (cross R v (q (suc k))) → k ≡ i
+      crossed_number k l r f = go (zero_or_more k) (below_or_same k m (omega arith))
+        where
+          go : (k ≡ 0) ⊎ (1 ≤ k) → (k < m) ⊎ (k ≡ m) → k ≡ i
+          go (inl z) s = absurd (first_not_right (subst (λ (j : ℕ). IsPositive (cross R (q j) v)) z r))
+          go (inr o) (inl c) = exits.crossed_side_is_exit L e k o c r f
+          go (inr o) (inr z) = absurd (turns.not_both_crosses L end_left (subst (λ (j : ℕ). IsPositive (cross R (q j) v)) z r))
+
+      met_number : (k : ℕ) → k < n → cross R v (q k) ≡ R.zero → IsPositive (dot R v (q k)) → k ≡ suc i
+      met_number k l z p = go (zero_or_more k)
+        where
+          go : (k ≡ 0) ⊎ (1 ≤ k) → k ≡ suc i
+          go (inl f) = absurd (first_not_met (ap (λ (j : ℕ). cross R v (q j)) (sym f) ∙ z) (subst (λ (j : ℕ). IsPositive (dot R v (q j))) f p))
+          go (inr o) = exits.corner_on_line_is_exit L e k o (omega arith) z
+
+      crossed : (y : X) (P : Vector A) → Put b B y P → IsPositive (cross R P v) → IsPositive (cross R v (add_vector R P (G.vector y))) → (y ≡ nth_side G b i) × (P ≡ q i)
+      crossed y P k r f =
+          let below = developments.put_below L test g h k in
+          let same : below.0 ≡ i = crossed_number below.0 below.1 (subst (λ w. IsPositive (cross R w v)) (sym below.3) r)
+          (signs.positive_of_eq L (λ j. cross R v (add_vector R (below.3 j) (G.vector (below.2 j)))) f) in
+          (sym below.2 ∙ ap (λ (j : ℕ). nth_side G b j) same, sym below.3 ∙ ap q same)
+
+      met : (y : X) (P : Vector A) → Put b B y P → cross R v P ≡ R.zero → IsPositive (dot R v P) → P ≡ q (suc i)
+      met y P k z p =
+          let below = developments.put_below L test g h k in
+          sym below.3 ∙ ap q (met_number below.0 below.1 (ap (cross R v) below.3 ∙ z) (subst (λ w. IsPositive (dot R v w)) (sym below.3) p))
+
+      leaves_at_exit : (IsPositive (cross R v (q (suc i))) → IsPositive (cross R (q i) (q (suc i)))) → (cross R v (q (suc i)) ≡ R.zero → IsPositive (dot R v (q (suc i))))
+          → Leaves R IsPositive G v b B
+      leaves_at_exit side_ahead corner_ahead = elim (L.trichotomy (cross R v (q (suc i)))) [
+        | positive p ↦ by_side (nth_side G b i) (q i) (record {
+          side = developments.put_number b B i;
+          right = e.right_before i e.not_first (omega arith);
+          left = p;
+          ahead = side_ahead p;
+          only = crossed;
+          no_corner = λ y P k z d. signs.positive-ne-zero L p (ap (cross R v) (sym (met y P k z d)) ∙ z);
+        })
+        | null z ↦ at_corner (nth_side G b (suc i)) (q (suc i)) (record {
+          corner = developments.put_number b B (suc i);
+          on_line = z;
+          ahead = corner_ahead z;
+          only = met;
+          no_side = λ y P k r f.
+              let same = crossed y P k r f in
+              signs.positive-ne-zero L (signs.positive_of_eq L (sym (λ j. cross R v (add_vector R (same.1 j) (G.vector (same.0 j))))) f) z;
+        })
+        | negative p ↦ absurd (e.not_right (directions.cross_positive L v (q (suc i)) p))
+      ]
+
+    leaves_after_entry : IsPositive (cross R v B) → IsPositive (cross R (add_vector R B (G.vector b)) v) → IsPositive (cross R (add_vector R B (G.vector b)) B)
+        → Leaves R IsPositive G v b B
+    leaves_after_entry l r a =
+        let end_left : IsPositive (cross R v (q n)) = subst (λ w. IsPositive (cross R v w)) (sym polygon.closed) l in
+        let two : 2 ≤ n = at_least_two n (developments.some_side L test g b h) (λ z. turns.not_both_crosses L end_left (subst (λ (j : ℕ). IsPositive (cross R (q j) v)) (sym z) r)) in
+        let down : IsPositive (cross R (G.vector b) v) =
+        directions.positive_by_plane L [] (v ∷ B ∷ G.vector b ∷ []) (λ v b s. cross E s v ≐ cross E (add_vector E b s) v ⊕ cross E v b) refl (L.add_positive r l) in
+        let found = exits.exit L test polygon v n two (omega arith) down r end_left in
+        let e = found.1 in
+        leaves_at_exit e (omega arith) (omega arith) end_left (λ k. turns.not_both_crosses L l k) (λ z d. signs.positive-ne-zero L l z)
+        (λ p. exits.side_ahead_of_entry L test polygon l r a found.0 (suc found.0) (e.right_before found.0 e.not_first (omega arith)) p)
+        (λ z. exits.corner_ahead_of_entry L test polygon l r a (suc found.0) z)
+
+    leaves_after_start : B ≡ zero_vector R → StrictlyInSectorOf R IsPositive G b v → Leaves R IsPositive G v b B
+    leaves_after_start start strict =
+        let some = developments.some_side L test g b h in
+        let to_n : suc (n - 1) ≡ n = omega arith in
+        let last : add_vector R (q (n - 1)) (G.vector (G.prev b)) ≡ zero_vector R =
+        ap (λ x. add_vector R (q (n - 1)) (G.vector x)) (sym (put_polygons.last_side L test g b h)) ∙ ap q to_n ∙ polygon.closed ∙ start in
+        let end_left : IsPositive (cross R v (q (n - 1))) =
+        directions.positive_by_plane L [] (v ∷ q (n - 1) ∷ G.vector (G.prev b) ∷ []) (λ v a s. cross E v a ≐ cross E v (neg_vector E s) ⊕ cross E v (add_vector E a s)) refl
+        (signs.add_positive_non_negative L strict.right_of_end (signs.non_negative_of_zero L (ap (cross R v) last ∙ plane.cross-zero_right L.ring v))) in
+        let right : IsPositive (cross R (add_vector R B (G.vector b)) v) =
+        subst (λ w. IsPositive (cross R (add_vector R w (G.vector b)) v)) (sym start)
+        (directions.positive_by_plane L [] (v ∷ G.vector b ∷ []) (λ v s. cross E (add_vector E (zero_vector E) s) v ≐ cross E s v) refl strict.left_of_start) in
+        let not_one : n - 1 ≡ 1 → ⊥ = λ z. turns.not_both_crosses L end_left (subst (λ (j : ℕ). IsPositive (cross R (q j) v)) (sym z) right) in
+        let not_zero : 0 < n - 1 = positive_number (n - 1) (λ z. signs.positive-ne-zero L end_left (ap (λ (j : ℕ). cross R v (q j)) z ∙ ap (cross R v) start ∙ plane.cross-zero_right L.ring v)) in
+        let two : 2 ≤ n - 1 = at_least_two (n - 1) not_zero not_one in
+        let found = exits.exit L test polygon v (n - 1) two (omega arith) strict.left_of_start right end_left in
+        let e = found.1 in
+        leaves_at_exit e (omega arith) (omega arith) end_left
+        (λ k. directions.cross_positive-ne-zero_left L k start)
+        (λ z d. directions.dot_positive-ne-zero_right L d start)
+        (λ p. exits.side_ahead_of_start L test polygon start e (omega arith))
+        (λ z. exits.corner_ahead_of_start L test polygon start e (omega arith) z)
+      where
+        positive_number : (k : ℕ) → (k ≡ 0 → ⊥) → 0 < k
+        positive_number zero f = absurd (f refl)
+        positive_number (suc k) f = omega arith
+
+  -- where a path comes into a put polygon, its line leaves by one side or at one corner
+  pub leaves : {v : Vector A} {b : X} {B : Vector A} → IsSide G b → ComesInto R IsPositive G v b B → Leaves R IsPositive G v b B
+  leaves {v} {b} {B} h (begins start strict) = leaves_after_start v b B h start strict
+  leaves {v} {b} {B} h (enters l r a f) = leaves_after_entry v b B h l r a
