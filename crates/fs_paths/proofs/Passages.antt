@@ -108,10 +108,13 @@ module _ {A : Type 0} {R : Operations A} {IsPositive : A → Type 0} (L : IsOrde
         let down : IsPositive (cross R (G.vector b) v) =
         directions.positive_by_plane L [] (v ∷ B ∷ G.vector b ∷ []) (λ v b s. cross E s v ≐ cross E (add_vector E b s) v ⊕ cross E v b) refl (L.add_positive r l) in
         let found = exits.exit L test polygon v n two (omega arith) down r end_left in
-        let e = found.1 in
-        leaves_at_exit e (omega arith) (omega arith) end_left (λ k. turns.not_both_crosses L l k) (λ z d. signs.positive-ne-zero L l z)
-        (λ p. exits.side_ahead_of_entry L test polygon l r a found.0 (suc found.0) (e.right_before found.0 e.not_first (omega arith)) p)
-        (λ z. exits.corner_ahead_of_entry L test polygon l r a (suc found.0) z)
+        go end_left found.0 found.1
+      where
+        go : IsPositive (cross R v (q n)) → (i : ℕ) → IsExit R IsPositive v q i n → Leaves R IsPositive G v b B
+        go end_left i e =
+            leaves_at_exit e (omega arith) (omega arith) end_left (λ k. turns.not_both_crosses L l k) (λ z d. signs.positive-ne-zero L l z)
+            (λ p. exits.side_ahead_of_entry L test polygon l r a i (suc i) (e.right_before i e.not_first (omega arith)) p)
+            (λ z. exits.corner_ahead_of_entry L test polygon l r a (suc i) z)
 
     leaves_after_start : B ≡ zero_vector R → StrictlyInSectorOf R IsPositive G b v → Leaves R IsPositive G v b B
     leaves_after_start start strict =
@@ -129,18 +132,67 @@ module _ {A : Type 0} {R : Operations A} {IsPositive : A → Type 0} (L : IsOrde
         let not_zero : 0 < n - 1 = positive_number (n - 1) (λ z. signs.positive-ne-zero L end_left (ap (λ (j : ℕ). cross R v (q j)) z ∙ ap (cross R v) start ∙ plane.cross-zero_right L.ring v)) in
         let two : 2 ≤ n - 1 = at_least_two (n - 1) not_zero not_one in
         let found = exits.exit L test polygon v (n - 1) two (omega arith) strict.left_of_start right end_left in
-        let e = found.1 in
-        leaves_at_exit e (omega arith) (omega arith) end_left
-        (λ k. directions.cross_positive-ne-zero_left L k start)
-        (λ z d. directions.dot_positive-ne-zero_right L d start)
-        (λ p. exits.side_ahead_of_start L test polygon start e (omega arith))
-        (λ z. exits.corner_ahead_of_start L test polygon start e (omega arith) z)
+        go end_left some found.0 found.1
       where
         positive_number : (k : ℕ) → (k ≡ 0 → ⊥) → 0 < k
         positive_number zero f = absurd (f refl)
         positive_number (suc k) f = omega arith
 
+        go : IsPositive (cross R v (q (n - 1))) → 0 < n → (i : ℕ) → IsExit R IsPositive v q i (n - 1) → Leaves R IsPositive G v b B
+        go end_left some i e =
+            leaves_at_exit e (omega arith) (omega arith) end_left
+            (λ k. directions.cross_positive-ne-zero_left L k start)
+            (λ z d. directions.dot_positive-ne-zero_right L d start)
+            (λ p. exits.side_ahead_of_start L test polygon start e (omega arith))
+            (λ z. exits.corner_ahead_of_start L test polygon start e (omega arith) z)
+
   -- where a path comes into a put polygon, its line leaves by one side or at one corner
   pub leaves : {v : Vector A} {b : X} {B : Vector A} → IsSide G b → ComesInto R IsPositive G v b B → Leaves R IsPositive G v b B
   leaves {v} {b} {B} h (begins start strict) = leaves_after_start v b B h start strict
   leaves {v} {b} {B} h (enters l r a f) = leaves_after_entry v b B h l r a
+
+  -- ---- into the next polygon
+
+  -- where a path crosses a side, it comes into the polygon at the other side of it
+  pub comes_into_next : {v : Vector A} {b x : X} {B Q : Vector A} → IsSide G b → ComesInto R IsPositive G v b B → Put b B x Q → Crosses R IsPositive v Q (add_vector R Q (G.vector x))
+      → ComesInto R IsPositive G v (G.twin x) (add_vector R Q (G.vector x))
+  comes_into_next {v} {b} {x} {B} {Q} h c k cr =
+      let hx = developments.put_is_side L test g h k in
+      let u = G.vector x in
+      let ahead : IsPositive (cross R Q (add_vector R Q u)) = go (leaves h c) in
+      enters cr.left
+      (subst (λ w. IsPositive (cross R (add_vector R (add_vector R Q u) w) v)) (sym (g.twin_opposite x hx))
+      (directions.positive_by_plane L [] (v ∷ Q ∷ u ∷ []) (λ v q u. cross E (add_vector E (add_vector E q u) (neg_vector E u)) v ≐ cross E q v) refl cr.right))
+      (subst (λ w. IsPositive (cross R (add_vector R (add_vector R Q u) w) (add_vector R Q u))) (sym (g.twin_opposite x hx))
+      (directions.positive_by_plane L [] (Q ∷ u ∷ []) (λ q u. cross E (add_vector E (add_vector E q u) (neg_vector E u)) (add_vector E q u) ≐ cross E q (add_vector E q u)) refl ahead))
+      (subst (λ w. IsPositive (cross R w (sub_vector R v (add_vector R Q u)))) (sym (g.twin_opposite x hx))
+      (directions.positive_by_plane L [] (v ∷ Q ∷ u ∷ [])
+      (λ v q u. cross E (neg_vector E u) (sub_vector E v (add_vector E q u)) ≐ cross E (sub_vector E v q) (sub_vector E (add_vector E q u) q)) refl cr.beyond))
+    where
+      go : Leaves R IsPositive G v b B → IsPositive (cross R Q (add_vector R Q (G.vector x)))
+      go (at_corner y P l) = absurd (l.no_side x Q k cr.right cr.left)
+      go (by_side y P l) =
+          let same = l.only x Q k cr.right cr.left in
+          signs.positive_of_eq L (λ j. cross R (same.1 j) (add_vector R (same.1 j) (G.vector (same.0 j)))) l.ahead
+
+  -- ---- chords of a polygon
+
+  -- where a path crosses a side of a polygon, it crosses each chord from a corner right of the line to one left of it
+  pub crosses_chord : {v : Vector A} {b x d e : X} {B Q D F : Vector A} → IsSide G b → Put b B x Q → Crosses R IsPositive v Q (add_vector R Q (G.vector x))
+      → Put b B d D → Put b B e F → IsPositive (cross R D v) → IsPositive (cross R v F) → Crosses R IsPositive v D F
+  crosses_chord {v} {b} {x} {d} {e} {B} {Q} {D} {F} h k cr hd he right left =
+      let u = G.vector x in
+      record {
+        right = right;
+        left = left;
+        beyond =
+            signs.positive_of_mul_left L (L.add_positive cr.left cr.right)
+            (directions.positive_by_plane L [] (v ∷ Q ∷ u ∷ D ∷ F ∷ [])
+            (λ v q u a b. (cross E v (add_vector E q u) ⊕ cross E q v) ⊗ cross E (sub_vector E v a) (sub_vector E b a)
+            ≐ (cross E v b ⊕ cross E a v) ⊗ cross E (sub_vector E v q) (sub_vector E (add_vector E q u) q)
+            ⊕ (cross E v b ⊗ cross E u (sub_vector E a q) ⊕ cross E a v ⊗ cross E u (sub_vector E b q))) refl
+            (signs.add_positive_non_negative L (L.mul_positive (L.add_positive left right) cr.beyond)
+            (signs.add_non_negative L
+            (signs.mul_non_negative L (signs.non_negative_of_positive L left) (put_polygons.put_not_right L test g h k hd))
+            (signs.mul_non_negative L (signs.non_negative_of_positive L right) (put_polygons.put_not_right L test g h k he)))));
+      }
