@@ -1,18 +1,21 @@
 -- How a straight path passes through a put polygon: where its line leaves, and that the path comes into the next polygon. A library for crates to come.
-use Rattle.std.proofs.Common.{◌≡◌, ◌⊎◌, ℕ, Bool, zero, suc, ◌-◌, ◌<◌, ◌≤◌, [], ◌∷◌, refl, sym, ap, ◌∙◌, subst, inl, inr, arith}
+use Rattle.std.proofs.Common.{◌≡◌, ◌≢◌, ◌⊎◌, ℕ, Bool, zero, suc, ◌-◌, ◌<◌, ◌≤◌, [], ◌∷◌, refl, sym, ap, ◌∙◌, subst, inl, inr, arith}
 use Rattle.fs_ring.specs.Operations.{Operations}
-use Rattle.fs_ring.specs.OrderedRing.{IsOrderedRing, positive, null, negative, IsNonNegative}
+use Rattle.fs_ring.specs.OrderedRing.{IsOrderedRing, positive, null, negative, IsAtMost, IsNonNegative}
 use Rattle.fs_ring.specs.Vector.{Vector, zero_vector, add_vector, sub_vector, neg_vector, cross, dot}
 use Rattle.fs_ring.proofs.Signs as signs
+use Rattle.fs_ring.proofs.Order as order
 use Rattle.fs_ring.proofs.Plane as plane
+use Rattle.fs_ring.proofs.Chords as chords
 use Rattle.fs_ring.proofs.Directions as directions
 use Rattle.fs_ring.proofs.Turns as turns
-use Rattle.fs_ring.proofs.Solver.{expressions as E, numeral, ◌⊕◌, ◌⊗◌, ◌≐◌}
+use Rattle.fs_ring.proofs.Solver.{expressions as E, numeral, ◌⊕◌, ◌⊖◌, ◌⊗◌, ◌≐◌, ◌from◌}
+use Rattle.fs_ring.proofs.PlaneSolver.{plane_derived, by_plane_identity}
 use Rattle.fs_convex.specs.Turning.{DecidesHalfPlanes}
 use Rattle.fs_convex.specs.Polygon.{position, IsConvexPolygon, IsExit}
 use Rattle.fs_convex.proofs.Exits as exits
 use Rattle.fs_paths.specs.SideGluing.{SideGluing, IsSide, nth_side, sides_from, AreGluedPolygons, StrictlyInSectorOf}
-use Rattle.fs_paths.specs.Development.{IsPutAt}
+use Rattle.fs_paths.specs.Development.{IsPutAt, InPutPolygon}
 use Rattle.fs_paths.specs.StraightPaths.{Crosses}
 use Rattle.fs_paths.specs.Passages.{ComesInto, begins, enters, Leaves, LeavesBySide, LeavesAtCorner, by_side, at_corner}
 use Rattle.fs_paths.proofs.Developments as developments
@@ -196,3 +199,96 @@ module _ {A : Type 0} {R : Operations A} {IsPositive : A → Type 0} (L : IsOrde
             (signs.mul_non_negative L (signs.non_negative_of_positive L left) (put_polygons.put_not_right L test g h k hd))
             (signs.mul_non_negative L (signs.non_negative_of_positive L right) (put_polygons.put_not_right L test g h k he)))));
       }
+
+  -- ---- where the path ends in a polygon
+
+  -- s times any corner's distance from the line of a side is at most k times that of v
+  abbrev BelowAll : Vector A → X → Vector A → A → A → Type 0
+  BelowAll v b B k s = (y : X) (P : Vector A) → Put b B y P → IsAtMost R IsPositive (R.mul s (cross R (G.vector y) P)) (R.mul k (cross R (G.vector y) v))
+
+  -- the point v·k/s, with 0 ≤ k ≤ s, is right of no side
+  abbrev IsEntry : Vector A → X → Vector A → Type 0
+  IsEntry v b B = (k : A) × (s : A) × IsNonNegative R IsPositive k × IsAtMost R IsPositive k s × IsPositive s × BelowAll v b B k s
+
+  -- the point v·m/t, with t ≤ m, is right of no side
+  abbrev IsEnd : Vector A → X → Vector A → Type 0
+  IsEnd v b B = (m : A) × (t : A) × IsAtMost R IsPositive t m × IsPositive t × BelowAll v b B m t
+
+  inside_between : {v : Vector A} {b : X} {B : Vector A} → IsEntry v b B → IsEnd v b B → InPutPolygon R G IsPositive b B v
+  inside_between {v} {b} {B} a e y P k n =
+      chords.at_most_between L a.0 a.1 e.0 e.1 (cross R (G.vector y) v) (cross R (G.vector y) P) a.2 a.3 a.4 e.2 e.3 (a.5 y P k) (e.4 y P k)
+      (directions.positive_by_plane L [] (v ∷ P ∷ G.vector y ∷ []) (λ v p u. cross E u p ⊖ cross E u v ≐ E.neg (cross E u (sub_vector E v p))) refl n)
+
+  below_chord : {v : Vector A} {b d e : X} {B D F : Vector A} → IsSide G b → Put b B d D → Put b B e F → IsPositive (cross R D v) → IsPositive (cross R v F)
+      → BelowAll v b B (cross R D F) (R.add (cross R v F) (cross R D v))
+  below_chord {v} {b} {d} {e} {B} {D} {F} h hd he right left y P k =
+      order.at_most_of_sub L _ _
+      (by_plane_identity L.ring (IsNonNegative R IsPositive) [] (v ∷ P ∷ G.vector y ∷ D ∷ F ∷ [])
+      (λ v p u a b. cross E a b ⊗ cross E u v ⊖ (cross E v b ⊕ cross E a v) ⊗ cross E u p
+      ≐ cross E v b ⊗ cross E u (sub_vector E a p) ⊕ cross E a v ⊗ cross E u (sub_vector E b p)) refl
+      (signs.add_non_negative L
+      (signs.mul_non_negative L (signs.non_negative_of_positive L left) (put_polygons.put_not_right L test g h k hd))
+      (signs.mul_non_negative L (signs.non_negative_of_positive L right) (put_polygons.put_not_right L test g h k he))))
+
+  entry_at_start : (v : Vector A) {b : X} {B : Vector A} → IsSide G b → B ≡ zero_vector R → IsEntry v b B
+  entry_at_start v {b} {B} h start = (
+    R.zero,
+    R.one,
+    signs.zero_non_negative L,
+    order.at_most_of_less L R.zero R.one (order.zero_less L L.one_positive),
+    L.one_positive,
+    λ y P k. order.at_most_of_sub L _ _
+        (by_plane_identity L.ring (IsNonNegative R IsPositive) [] (v ∷ P ∷ G.vector y ∷ [])
+        (λ v p u. numeral 0 ⊗ cross E u v ⊖ numeral 1 ⊗ cross E u p ≐ cross E u (sub_vector E (zero_vector E) p)) refl
+        (subst (λ w. IsNonNegative R IsPositive (cross R (G.vector y) (sub_vector R w P))) start (put_polygons.put_not_right L test g h k (developments.put_refl b B)))),
+  )
+
+  entry_of : {v : Vector A} {b : X} {B : Vector A} → IsSide G b → ComesInto R IsPositive G v b B → IsEntry v b B
+  entry_of {v} h (begins start strict) = entry_at_start v h start
+  entry_of {v} {b} {B} h (enters l r a f) = (
+    cross R (add_vector R B (G.vector b)) B,
+    R.add (cross R v B) (cross R (add_vector R B (G.vector b)) v),
+    signs.non_negative_of_positive L a,
+    order.at_most_of_less L _ _
+        (directions.positive_by_plane L [] (v ∷ B ∷ G.vector b ∷ [])
+        (λ v b u. (cross E v b ⊕ cross E (add_vector E b u) v) ⊖ cross E (add_vector E b u) b ≐ cross E u (sub_vector E v b)) refl f),
+    L.add_positive l r,
+    below_chord h (developments.put_next (developments.put_refl b B)) (developments.put_refl b B) r l,
+  )
+
+  end_at_corner : {v : Vector A} {b x : X} {B Q : Vector A} → IsSide G b → Put b B x Q → v ≢ zero_vector R → cross R v Q ≡ R.zero → IsAtMost R IsPositive (dot R v v) (dot R v Q) → IsEnd v b B
+  end_at_corner {v} {b} {x} {B} {Q} h k some z l = (
+    dot R v Q,
+    dot R v v,
+    l,
+    directions.norm_positive L v some,
+    λ y P j. order.at_most_of_sub L _ _
+        (subst (IsNonNegative R IsPositive)
+        (sym (plane_derived L.ring [] (v ∷ P ∷ G.vector y ∷ Q ∷ [])
+        (λ v p u q. dot E v q ⊗ cross E u v ⊖ dot E v v ⊗ cross E u p ≐ dot E v v ⊗ cross E u (sub_vector E q p) from (E.neg (dot E u v), cross E v q ≐ numeral 0) ∷ []) refl (z, tt)))
+        (signs.mul_non_negative L (directions.norm_non_negative L v) (put_polygons.put_not_right L test g h j k))),
+  )
+
+  -- where the line leaves a polygon by a side, and v isn't beyond it, the path ends in the polygon
+  pub inside_before_side : {v : Vector A} {b x : X} {B Q : Vector A} → IsSide G b → ComesInto R IsPositive G v b B → LeavesBySide R IsPositive G v b B x Q
+      → IsNonNegative R IsPositive (cross R (G.vector x) (sub_vector R v Q)) → InPutPolygon R G IsPositive b B v
+  inside_before_side {v} {b} {x} {B} {Q} h c l before = inside_between (entry_of h c) (
+    cross R Q (add_vector R Q (G.vector x)),
+    R.add (cross R v (add_vector R Q (G.vector x))) (cross R Q v),
+    order.at_most_of_sub L _ _
+        (by_plane_identity L.ring (IsNonNegative R IsPositive) [] (v ∷ Q ∷ G.vector x ∷ [])
+        (λ v q u. cross E q (add_vector E q u) ⊖ (cross E v (add_vector E q u) ⊕ cross E q v) ≐ cross E u (sub_vector E v q)) refl before),
+    L.add_positive l.left l.right,
+    below_chord h l.side (developments.put_next l.side) l.right l.left,
+  )
+
+  -- where the line leaves a polygon at a corner, and v isn't beyond it, the path ends in the polygon
+  pub inside_before_corner : {v : Vector A} {b x : X} {B Q : Vector A} → IsSide G b → ComesInto R IsPositive G v b B → LeavesAtCorner R IsPositive G v b B x Q
+      → IsAtMost R IsPositive (dot R v v) (dot R v Q) → InPutPolygon R G IsPositive b B v
+  inside_before_corner h c l before =
+      inside_between (entry_of h c) (end_at_corner h l.corner (directions.dot_positive-ne-zero_left L l.ahead) l.on_line before)
+
+  -- so does a path from a corner of the polygon along a line that meets another one, where v isn't beyond that
+  pub inside_from_corner : {v : Vector A} {b x : X} {B Q : Vector A} → IsSide G b → B ≡ zero_vector R → Put b B x Q → v ≢ zero_vector R → cross R v Q ≡ R.zero
+      → IsAtMost R IsPositive (dot R v v) (dot R v Q) → InPutPolygon R G IsPositive b B v
+  inside_from_corner {v} h start k some z before = inside_between (entry_at_start v h start) (end_at_corner h k some z before)
