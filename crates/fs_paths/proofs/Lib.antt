@@ -1,3 +1,4 @@
 pub mod Developments
 pub mod PutPolygons
 pub mod Passages
+pub mod Words
