@@ -2,3 +2,4 @@ pub mod Developments
 pub mod PutPolygons
 pub mod Passages
 pub mod Words
+pub mod AlongSide

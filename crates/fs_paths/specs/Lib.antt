@@ -3,3 +3,4 @@ pub mod Development
 pub mod StraightPaths
 pub mod Segments
 pub mod Passages
+pub mod Ends
