@@ -3,3 +3,4 @@ pub mod PutPolygons
 pub mod Passages
 pub mod Words
 pub mod AlongSide
+pub mod EndUnique
