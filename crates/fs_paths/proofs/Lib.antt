@@ -4,3 +4,4 @@ pub mod Passages
 pub mod Words
 pub mod AlongSide
 pub mod EndUnique
+pub mod EndExists
