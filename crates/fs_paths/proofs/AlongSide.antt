@@ -1,30 +1,25 @@
 -- How a straight path ends that runs along a side from the corner at which it begins: by lengths alone. A library for crates to come.
-use Rattle.std.proofs.Common.{◌≡◌, ◌≢◌, ◌⊎◌, ℕ, Bool, zero, suc, ◌+◌, ◌<◌, ◌≤◌, List, [], ◌∷◌, ◌++◌, length, refl, sym, ap, ◌∙◌, subst, inl, inr, arith, length-append}
+use Rattle.std.proofs.Common.{◌≡◌, ◌≢◌, ◌⊎◌, ℕ, Bool, ◌<◌, List, [], ◌∷◌, refl, sym, ap, ◌∙◌, subst, inl, inr}
 use Rattle.fs_ring.specs.Operations.{Operations}
-use Rattle.fs_ring.specs.OrderedRing.{IsOrderedRing, Sign, positive, null, negative, less, equal, greater, IsLess, IsAtMost, IsNonNegative}
-use Rattle.fs_ring.specs.Vector.{Vector, zero_vector, add_vector, sub_vector, neg_vector, cross, dot, norm}
-use Rattle.fs_ring.specs.Direction.{IsAlong, InSector, at_start, inside}
-use Rattle.fs_ring.proofs.Signs as signs
+use Rattle.fs_ring.specs.OrderedRing.{IsOrderedRing, IsLess, IsAtMost}
+use Rattle.fs_ring.specs.Vector.{Vector, zero_vector, add_vector, sub_vector, cross, dot, norm}
+use Rattle.fs_ring.specs.Direction.{IsAlong, at_start}
 use Rattle.fs_ring.proofs.Order as order
 use Rattle.fs_ring.proofs.Plane as plane
 use Rattle.fs_ring.proofs.Directions as directions
 use Rattle.fs_ring.proofs.Turns as turns
 use Rattle.fs_ring.proofs.Chords as chords
-use Rattle.fs_ring.proofs.Solver.{expressions as E, ◌⊕◌, ◌⊖◌, ◌≐◌}
+use Rattle.fs_ring.proofs.Solver.{expressions as E, ◌⊖◌, ◌≐◌}
 use Rattle.fs_ring.proofs.PlaneSolver.{vector_identity, ◌≐ᵥ◌}
 use Rattle.fs_convex.specs.Turning.{DecidesHalfPlanes}
 use Rattle.fs_convex.specs.Polygon.{position}
 use Rattle.fs_convex.proofs.Exits as exits
-use Rattle.fs_paths.specs.SideGluing.{SideGluing, IsSide, nth_side, sides_from, AreGluedPolygons, InSectorOf, StrictlyInSectorOf}
-use Rattle.fs_paths.specs.Development.{IsPutAt, InPutPolygon}
-use Rattle.fs_paths.specs.StraightPaths.{Crosses, Path, Reaches, IsMet, IsMetBefore}
-use Rattle.fs_paths.specs.Segments.{IsSegment, MeetsCorner, EndsInside, IsLonger}
-use Rattle.fs_paths.specs.Passages.{ComesInto, begins, Leaves, LeavesBySide, LeavesAtCorner, by_side, at_corner}
-use Rattle.fs_paths.specs.Ends.{PathEnd, outside_sector, segment, corner_before_end, ends_inside, longer, IsEnd}
+use Rattle.fs_paths.specs.SideGluing.{SideGluing, IsSide, nth_side, sides_from, AreGluedPolygons}
+use Rattle.fs_paths.specs.Development.{IsPutAt}
+use Rattle.fs_paths.specs.StraightPaths.{Reaches}
+use Rattle.fs_paths.specs.Segments.{IsSegment, MeetsCorner, EndsInside}
 use Rattle.fs_paths.proofs.Developments as developments
-use Rattle.fs_paths.proofs.PutPolygons as put_polygons
 use Rattle.fs_paths.proofs.Passages as passages
-use Rattle.fs_paths.proofs.Words as words
 
 module _ {A : Type 0} {R : Operations A} {IsPositive : A → Type 0} (L : IsOrderedRing R IsPositive)
     {is_ahead : Vector A → Vector A → Bool} (test : DecidesHalfPlanes R IsPositive is_ahead)
@@ -50,7 +45,7 @@ module _ {A : Type 0} {R : Operations A} {IsPositive : A → Type 0} (L : IsOrde
   pub first_met_along_side : {c y : X} {v Q : Vector A} → IsSide G c → IsAlong R IsPositive (G.vector c) v → Put c (zero_vector R) y Q → cross R v Q ≡ R.zero → IsPositive (dot R v Q)
       → IsAtMost R IsPositive (dot R v (G.vector c)) (dot R v Q)
   first_met_along_side {c} {y} {v} {Q} h a k z p = go (exits.corner_ahead_on_side L test (developments.put_polygon L test g c (zero_vector R) h) refl a below.0 below.1
-        (ap (cross R v) below.3 ∙ z) (subst (λ w. IsPositive (dot R v w)) (sym below.3) p))
+      (ap (cross R v) below.3 ∙ z) (subst (λ w. IsPositive (dot R v w)) (sym below.3) p))
     where
       below : (k : ℕ) × (k < g.sides c) × (nth_side G c k ≡ y) × (position R (zero_vector R) (sides_from G c) k ≡ Q)
       below = developments.put_below L test g h k

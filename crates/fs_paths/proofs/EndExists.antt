@@ -1,5 +1,5 @@
 -- A straight path has an end, within any number of crossings. A library for crates to come.
-use Rattle.std.proofs.Common.{◌≡◌, ◌≢◌, ◌⊎◌, ℕ, Bool, zero, suc, ◌+◌, ◌≤◌, List, [], ◌∷◌, ◌++◌, length, refl, sym, ap, ◌∙◌, subst, inl, inr, arith, zero-add, length-append}
+use Rattle.std.proofs.Common.{◌≡◌, ◌⊎◌, ℕ, Bool, zero, suc, ◌+◌, ◌≤◌, List, [], ◌∷◌, ◌++◌, length, refl, sym, ap, ◌∙◌, subst, inl, inr, arith, zero-add, length-append}
 use Rattle.fs_ring.specs.Operations.{Operations}
 use Rattle.fs_ring.specs.OrderedRing.{IsOrderedRing, Sign, positive, null, negative, less, equal, greater, IsLess, IsNonNegative}
 use Rattle.fs_ring.specs.Vector.{Vector, zero_vector, add_vector, sub_vector, neg_vector, cross, dot, norm}
@@ -15,7 +15,7 @@ use Rattle.fs_paths.specs.SideGluing.{SideGluing, IsSide, AreGluedPolygons, InSe
 use Rattle.fs_paths.specs.Development.{IsPutAt}
 use Rattle.fs_paths.specs.StraightPaths.{Crosses, Reaches}
 use Rattle.fs_paths.specs.Segments.{IsSegment}
-use Rattle.fs_paths.specs.Passages.{ComesInto, begins, Leaves, LeavesBySide, LeavesAtCorner, by_side, at_corner}
+use Rattle.fs_paths.specs.Passages.{ComesInto, begins, LeavesBySide, LeavesAtCorner, by_side, at_corner}
 use Rattle.fs_paths.specs.Ends.{PathEnd, outside_sector, segment, corner_before_end, ends_inside, longer, IsEnd}
 use Rattle.fs_paths.proofs.Developments as developments
 use Rattle.fs_paths.proofs.Passages as passages
@@ -141,9 +141,9 @@ module _ {A : Type 0} {R : Operations A} {IsPositive : A → Type 0} (L : IsOrde
   end_after s n (suc m) word f F e h comes reached =
       end_here n word f F (omega arith) h comes reached
       (λ x Q k cr.
-          let size : length (word ++ x ∷ []) + m ≡ n = (let z = length-append word (x ∷ []) in omega arith) in
-          end_after s n m (word ++ x ∷ []) (G.twin x) (add_vector R Q (G.vector x)) size (g.twin_side x (developments.put_is_side L test g h k))
-          (passages.comes_into_next L test g h comes k cr) (words.reaches_one_more R IsPositive G v c word s reached k cr))
+      let size : length (word ++ x ∷ []) + m ≡ n = (let z = length-append word (x ∷ []) in omega arith) in
+      end_after s n m (word ++ x ∷ []) (G.twin x) (add_vector R Q (G.vector x)) size (g.twin_side x (developments.put_is_side L test g h k))
+      (passages.comes_into_next L test g h comes k cr) (words.reaches_one_more R IsPositive G v c word s reached k cr))
 
   -- ---- a path along the side at which it begins
 
@@ -152,8 +152,7 @@ module _ {A : Type 0} {R : Operations A} {IsPositive : A → Type 0} (L : IsOrde
     end_along_side a n = elim (order.compare L (norm R v) (norm R (G.vector c))) [
       | less l ↦ (ends_inside [], (omega arith, along_side.inside_along_side L test g h a l))
       | equal e ↦
-          let same : G.vector c ≡ v = chords.equal_of_norms L a (sym e) in
-          (
+          let same : G.vector c ≡ v = chords.equal_of_norms L a (sym e) in (
             segment [] (G.next c),
             (omega arith, subst (λ w. IsSegment R IsPositive G c [] w (G.next c)) same (along_side.segment_along_side L test g c h (directions.dot_positive-ne-zero_left L a.same_way))),
           )

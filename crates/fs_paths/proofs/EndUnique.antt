@@ -1,8 +1,8 @@
 -- A straight path has at most one end: any two are the same, with the same word and the same corner. A library for crates to come.
-use Rattle.std.proofs.Common.{◌≡◌, ◌≢◌, ◌⊎◌, ℕ, Bool, ◌+◌, ◌<◌, ◌≤◌, List, [], ◌∷◌, ◌++◌, length, refl, sym, ap, ◌∙◌, subst, inl, inr, arith, length-append, append-nil}
+use Rattle.std.proofs.Common.{◌≡◌, ◌≢◌, ◌⊎◌, ℕ, Bool, ◌<◌, ◌≤◌, List, [], ◌∷◌, ◌++◌, length, refl, sym, ap, ◌∙◌, subst, inl, inr, arith, length-append, append-nil}
 use Rattle.fs_ring.specs.Operations.{Operations}
 use Rattle.fs_ring.specs.OrderedRing.{IsOrderedRing}
-use Rattle.fs_ring.specs.Vector.{Vector, zero_vector, add_vector, cross, dot}
+use Rattle.fs_ring.specs.Vector.{Vector, zero_vector, add_vector, dot}
 use Rattle.fs_ring.specs.Direction.{at_start, inside}
 use Rattle.fs_ring.proofs.Order as order
 use Rattle.fs_ring.proofs.Plane as plane

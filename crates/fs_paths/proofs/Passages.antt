@@ -207,14 +207,14 @@ module _ {A : Type 0} {R : Operations A} {IsPositive : A → Type 0} (L : IsOrde
   BelowAll v b B k s = (y : X) (P : Vector A) → Put b B y P → IsAtMost R IsPositive (R.mul s (cross R (G.vector y) P)) (R.mul k (cross R (G.vector y) v))
 
   -- the point v·k/s, with 0 ≤ k ≤ s, is right of no side
-  abbrev IsEntry : Vector A → X → Vector A → Type 0
-  IsEntry v b B = (k : A) × (s : A) × IsNonNegative R IsPositive k × IsAtMost R IsPositive k s × IsPositive s × BelowAll v b B k s
+  abbrev HasPointBefore : Vector A → X → Vector A → Type 0
+  HasPointBefore v b B = (k : A) × (s : A) × IsNonNegative R IsPositive k × IsAtMost R IsPositive k s × IsPositive s × BelowAll v b B k s
 
   -- the point v·m/t, with t ≤ m, is right of no side
-  abbrev IsEnd : Vector A → X → Vector A → Type 0
-  IsEnd v b B = (m : A) × (t : A) × IsAtMost R IsPositive t m × IsPositive t × BelowAll v b B m t
+  abbrev HasPointAfter : Vector A → X → Vector A → Type 0
+  HasPointAfter v b B = (m : A) × (t : A) × IsAtMost R IsPositive t m × IsPositive t × BelowAll v b B m t
 
-  inside_between : {v : Vector A} {b : X} {B : Vector A} → IsEntry v b B → IsEnd v b B → InPutPolygon R G IsPositive b B v
+  inside_between : {v : Vector A} {b : X} {B : Vector A} → HasPointBefore v b B → HasPointAfter v b B → InPutPolygon R G IsPositive b B v
   inside_between {v} {b} {B} a e y P k n =
       chords.at_most_between L a.0 a.1 e.0 e.1 (cross R (G.vector y) v) (cross R (G.vector y) P) a.2 a.3 a.4 e.2 e.3 (a.5 y P k) (e.4 y P k)
       (directions.positive_by_plane L [] (v ∷ P ∷ G.vector y ∷ []) (λ v p u. cross E u p ⊖ cross E u v ≐ E.neg (cross E u (sub_vector E v p))) refl n)
@@ -230,7 +230,7 @@ module _ {A : Type 0} {R : Operations A} {IsPositive : A → Type 0} (L : IsOrde
       (signs.mul_non_negative L (signs.non_negative_of_positive L left) (put_polygons.put_not_right L test g h k hd))
       (signs.mul_non_negative L (signs.non_negative_of_positive L right) (put_polygons.put_not_right L test g h k he))))
 
-  entry_at_start : (v : Vector A) {b : X} {B : Vector A} → IsSide G b → B ≡ zero_vector R → IsEntry v b B
+  entry_at_start : (v : Vector A) {b : X} {B : Vector A} → IsSide G b → B ≡ zero_vector R → HasPointBefore v b B
   entry_at_start v {b} {B} h start = (
     R.zero,
     R.one,
@@ -243,7 +243,7 @@ module _ {A : Type 0} {R : Operations A} {IsPositive : A → Type 0} (L : IsOrde
         (subst (λ w. IsNonNegative R IsPositive (cross R (G.vector y) (sub_vector R w P))) start (put_polygons.put_not_right L test g h k (developments.put_refl b B)))),
   )
 
-  entry_of : {v : Vector A} {b : X} {B : Vector A} → IsSide G b → ComesInto R IsPositive G v b B → IsEntry v b B
+  entry_of : {v : Vector A} {b : X} {B : Vector A} → IsSide G b → ComesInto R IsPositive G v b B → HasPointBefore v b B
   entry_of {v} h (begins start strict) = entry_at_start v h start
   entry_of {v} {b} {B} h (enters l r a f) = (
     cross R (add_vector R B (G.vector b)) B,
@@ -256,7 +256,7 @@ module _ {A : Type 0} {R : Operations A} {IsPositive : A → Type 0} (L : IsOrde
     below_chord h (developments.put_next (developments.put_refl b B)) (developments.put_refl b B) r l,
   )
 
-  end_at_corner : {v : Vector A} {b x : X} {B Q : Vector A} → IsSide G b → Put b B x Q → v ≢ zero_vector R → cross R v Q ≡ R.zero → IsAtMost R IsPositive (dot R v v) (dot R v Q) → IsEnd v b B
+  end_at_corner : {v : Vector A} {b x : X} {B Q : Vector A} → IsSide G b → Put b B x Q → v ≢ zero_vector R → cross R v Q ≡ R.zero → IsAtMost R IsPositive (dot R v v) (dot R v Q) → HasPointAfter v b B
   end_at_corner {v} {b} {x} {B} {Q} h k some z l = (
     dot R v Q,
     dot R v v,

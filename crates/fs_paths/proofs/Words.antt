@@ -10,8 +10,8 @@ use Rattle.fs_ring.proofs.Solver.{expressions as E, ◌≐◌}
 use Rattle.fs_convex.specs.Turning.{DecidesHalfPlanes}
 use Rattle.fs_paths.specs.SideGluing.{SideGluing, IsSide, AreGluedPolygons, InSectorOf, StrictlyInSectorOf}
 use Rattle.fs_paths.specs.Development.{IsPutAt, InPutPolygon}
-use Rattle.fs_paths.specs.StraightPaths.{Crosses, Path, Reaches, IsMet}
-use Rattle.fs_paths.specs.Passages.{ComesInto, Leaves, by_side, at_corner}
+use Rattle.fs_paths.specs.StraightPaths.{Crosses, Path, Reaches}
+use Rattle.fs_paths.specs.Passages.{ComesInto, by_side, at_corner}
 use Rattle.fs_paths.proofs.Developments as developments
 use Rattle.fs_paths.proofs.Passages as passages
 
