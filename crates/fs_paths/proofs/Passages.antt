@@ -1,5 +1,6 @@
 -- How a straight path passes through a put polygon: where its line leaves, and that the path comes into the next polygon. A library for crates to come.
 use Rattle.std.proofs.Common.{◌≡◌, ◌≢◌, ◌⊎◌, ℕ, Bool, zero, suc, ◌-◌, ◌<◌, ◌≤◌, [], ◌∷◌, refl, sym, ap, ◌∙◌, subst, inl, inr, arith}
+use Rattle.fs_cycles.proofs.Iterates.{iterate_after}
 use Rattle.fs_ring.specs.Operations.{Operations}
 use Rattle.fs_ring.specs.OrderedRing.{IsOrderedRing, positive, null, negative, IsAtMost, IsNonNegative}
 use Rattle.fs_ring.specs.Vector.{Vector, zero_vector, add_vector, sub_vector, neg_vector, cross, dot}
@@ -75,6 +76,24 @@ module _ {A : Type 0} {R : Operations A} {IsPositive : A → Type 0} (L : IsOrde
           (signs.positive_of_eq L (λ j. cross R v (add_vector R (below.3 j) (G.vector (below.2 j)))) f) in
           (sym below.2 ∙ ap (λ (j : ℕ). nth_side G b j) same, sym below.3 ∙ ap q same)
 
+      -- a side that comes from the right of the line to a corner on it is the exit side
+      touched_number : (k : ℕ) → k < n → IsPositive (cross R (q k) v) → cross R v (q (suc k)) ≡ R.zero → k ≡ i
+      touched_number k l r z = go (zero_or_more k)
+        where
+          go : (k ≡ 0) ⊎ (1 ≤ k) → k ≡ i
+          go (inl f) = absurd (first_not_right (subst (λ (j : ℕ). IsPositive (cross R (q j) v)) f r))
+          go (inr o) = elim (below_or_same k i (let a = exits.right_before_exit L e k (omega arith) r in omega arith)) [
+            | inl c ↦ absurd (signs.positive-ne-zero L (e.right_before (suc k) (omega arith) (omega arith)) (directions.parallel_comm L v (q (suc k)) z))
+            | inr same ↦ same
+          ]
+
+      touched : (y : X) (P : Vector A) → Put b B y P → IsPositive (cross R P v) → cross R v (add_vector R P (G.vector y)) ≡ R.zero → (y ≡ nth_side G b i) × (P ≡ q i)
+      touched y P k r z =
+          let below = developments.put_below L test g h k in
+          let same : below.0 ≡ i = touched_number below.0 below.1 (subst (λ w. IsPositive (cross R w v)) (sym below.3) r)
+          (ap (cross R v) (λ j. add_vector R (below.3 j) (G.vector (below.2 j))) ∙ z) in
+          (sym below.2 ∙ ap (λ (j : ℕ). nth_side G b j) same, sym below.3 ∙ ap q same)
+
       met : (y : X) (P : Vector A) → Put b B y P → cross R v P ≡ R.zero → IsPositive (dot R v P) → P ≡ q (suc i)
       met y P k z p =
           let below = developments.put_below L test g h k in
@@ -90,12 +109,18 @@ module _ {A : Type 0} {R : Operations A} {IsPositive : A → Type 0} (L : IsOrde
           ahead = side_ahead p;
           only = crossed;
           no_corner = λ y P k z d. signs.positive-ne-zero L p (ap (cross R v) (sym (met y P k z d)) ∙ z);
+          no_end = λ y P k r z.
+              let same = touched y P k r z in
+              signs.positive-ne-zero L p (sym (λ j. cross R v (add_vector R (same.1 j) (G.vector (same.0 j)))) ∙ z);
         })
         | null z ↦ at_corner (nth_side G b (suc i)) (q (suc i)) (record {
           corner = developments.put_number b B (suc i);
           on_line = z;
           ahead = corner_ahead z;
           only = met;
+          only_end = λ y P k r f.
+              let same = touched y P k r f in
+              (ap G.next same.0 ∙ sym (iterate_after G.next i b), λ j. add_vector R (same.1 j) (G.vector (same.0 j)));
           no_side = λ y P k r f.
               let same = crossed y P k r f in
               signs.positive-ne-zero L (signs.positive_of_eq L (sym (λ j. cross R v (add_vector R (same.1 j) (G.vector (same.0 j))))) f) z;
@@ -153,6 +178,44 @@ module _ {A : Type 0} {R : Operations A} {IsPositive : A → Type 0} (L : IsOrde
   pub leaves : {v : Vector A} {b : X} {B : Vector A} → IsSide G b → ComesInto R IsPositive G v b B → Leaves R IsPositive G v b B
   leaves {v} {b} {B} h (begins start strict) = leaves_after_start v b B h start strict
   leaves {v} {b} {B} h (enters l r a f) = leaves_after_entry v b B h l r a
+
+  -- the line leaves by the side that comes from its right to its left
+  pub leaves_by_side : {v : Vector A} {b x : X} {B Q : Vector A} → IsSide G b → ComesInto R IsPositive G v b B → Put b B x Q → IsPositive (cross R Q v)
+      → IsPositive (cross R v (add_vector R Q (G.vector x))) → LeavesBySide R IsPositive G v b B x Q
+  leaves_by_side {v} {b} {x} {B} {Q} h c k r f = elim (leaves h c) [
+    | by_side y P l ↦
+        let same = l.only x Q k r f in
+        subst (λ z. LeavesBySide R IsPositive G v b B z Q) (sym same.0) (subst (λ w. LeavesBySide R IsPositive G v b B y w) (sym same.1) l)
+    | at_corner y P l ↦ absurd (l.no_side x Q k r f)
+  ]
+
+  -- the line leaves at the corner on it to which a side comes from its right
+  pub leaves_at_corner : {v : Vector A} {b x : X} {B Q : Vector A} → IsSide G b → ComesInto R IsPositive G v b B → Put b B x Q → IsPositive (cross R Q v)
+      → cross R v (add_vector R Q (G.vector x)) ≡ R.zero → LeavesAtCorner R IsPositive G v b B (G.next x) (add_vector R Q (G.vector x))
+  leaves_at_corner {v} {b} {x} {B} {Q} h c k r z = elim (leaves h c) [
+    | by_side y P l ↦ absurd (l.no_end x Q k r z)
+    | at_corner y P l ↦
+        let same = l.only_end x Q k r z in
+        subst (λ e. LeavesAtCorner R IsPositive G v b B e (add_vector R Q (G.vector x))) (sym same.0) (subst (λ w. LeavesAtCorner R IsPositive G v b B y w) (sym same.1) l)
+  ]
+
+  -- the corners from the first on that are right of the line are fewer than the sides
+  pub right_corners_below_sides : {v : Vector A} {b : X} {B : Vector A} → IsSide G b → ComesInto R IsPositive G v b B → (k : ℕ)
+      → ((j : ℕ) → 1 ≤ j → j ≤ k → IsPositive (cross R (position R B (sides_from G b) j) v)) → k < g.sides b
+  right_corners_below_sides {v} {b} {B} h c k right = elim (below_or_not k (g.sides b)) [
+    | inl l ↦ l
+    | inr l ↦
+        let again : IsPositive (cross R B v) =
+        subst (λ w. IsPositive (cross R w v)) (developments.put_polygon L test g b B h).closed (right (g.sides b) (let some = developments.some_side L test g b h in omega arith) l) in
+        absurd (start_not_right c again)
+  ]
+    where
+      below_or_not : (k n : ℕ) → (k < n) ⊎ (n ≤ k)
+      below_or_not k n = grind arith
+
+      start_not_right : ComesInto R IsPositive G v b B → IsPositive (cross R B v) → ⊥
+      start_not_right (begins start strict) r = directions.cross_positive-ne-zero_left L r start
+      start_not_right (enters l r a f) p = turns.not_both_crosses L l p
 
   -- ---- into the next polygon
 

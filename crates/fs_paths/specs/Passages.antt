@@ -1,5 +1,5 @@
 -- How a straight path comes into a polygon that is laid out in the plane, and how its line leaves that polygon. A library for crates to come.
-use Rattle.std.specs.Prelude.{◌≡◌}
+use Rattle.std.specs.Prelude.{◌≡◌, ◌≢◌}
 use Rattle.fs_ring.specs.Operations.{Operations}
 use Rattle.fs_ring.specs.Vector.{Vector, zero_vector, add_vector, sub_vector, cross, dot}
 use Rattle.fs_paths.specs.SideGluing.{SideGluing, StrictlyInSectorOf}
@@ -13,7 +13,7 @@ module _ {A : Type 0} (R : Operations A) (IsPositive : A → Type 0) {X : Type 0
     enters : IsPositive (cross R v B) → IsPositive (cross R (add_vector R B (G.vector b)) v) → IsPositive (cross R (add_vector R B (G.vector b)) B)
         → IsPositive (cross R (G.vector b) (sub_vector R v B)) → ComesInto b B
 
-  -- the line leaves the polygon of b by its side x at Q: ahead of (0, 0), by no other side, and no corner is on the line ahead
+  -- the line leaves the polygon of b by its side x at Q: ahead of (0, 0), and by no other side; no corner is on the line ahead, and no side comes from the right of the line to a corner on it
   pub record LeavesBySide (b : X) (B : Vector A) (x : X) (Q : Vector A) : Type 0 where
     pub side : IsPutAt R G b B x Q
     pub right : IsPositive (cross R Q v)
@@ -21,13 +21,15 @@ module _ {A : Type 0} (R : Operations A) (IsPositive : A → Type 0) {X : Type 0
     pub ahead : IsPositive (cross R Q (add_vector R Q (G.vector x)))
     pub only : (y : X) (P : Vector A) → IsPutAt R G b B y P → IsPositive (cross R P v) → IsPositive (cross R v (add_vector R P (G.vector y))) → (y ≡ x) × (P ≡ Q)
     pub no_corner : (y : X) (P : Vector A) → IsPutAt R G b B y P → cross R v P ≡ R.zero → ¬ IsPositive (dot R v P)
+    pub no_end : (y : X) (P : Vector A) → IsPutAt R G b B y P → IsPositive (cross R P v) → cross R v (add_vector R P (G.vector y)) ≢ R.zero
 
-  -- the line leaves the polygon of b at its corner x at Q: ahead of (0, 0), at no other corner, and by no side
+  -- the line leaves the polygon of b at its corner x at Q: ahead of (0, 0), at no other corner, and by no side; a side that comes from the right of the line to a corner on it comes to this one
   pub record LeavesAtCorner (b : X) (B : Vector A) (x : X) (Q : Vector A) : Type 0 where
     pub corner : IsPutAt R G b B x Q
     pub on_line : cross R v Q ≡ R.zero
     pub ahead : IsPositive (dot R v Q)
     pub only : (y : X) (P : Vector A) → IsPutAt R G b B y P → cross R v P ≡ R.zero → IsPositive (dot R v P) → P ≡ Q
+    pub only_end : (y : X) (P : Vector A) → IsPutAt R G b B y P → IsPositive (cross R P v) → cross R v (add_vector R P (G.vector y)) ≡ R.zero → (G.next y ≡ x) × (add_vector R P (G.vector y) ≡ Q)
     pub no_side : (y : X) (P : Vector A) → IsPutAt R G b B y P → IsPositive (cross R P v) → ¬ IsPositive (cross R v (add_vector R P (G.vector y)))
 
   -- how the line leaves the polygon
