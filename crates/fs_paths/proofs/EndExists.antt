@@ -20,6 +20,7 @@ use Rattle.fs_paths.specs.Ends.{PathEnd, outside_sector, segment, corner_before_
 use Rattle.fs_paths.proofs.Developments as developments
 use Rattle.fs_paths.proofs.Passages as passages
 use Rattle.fs_paths.proofs.Words as words
+use Rattle.fs_paths.proofs.Ends as ends
 use Rattle.fs_paths.proofs.AlongSide as along_side
 use Rattle.fs_paths.proofs.EndUnique as end_unique
 
@@ -53,19 +54,7 @@ module _ {A : Type 0} {R : Operations A} {IsPositive : A → Type 0} (L : IsOrde
       (reached : Reaches R IsPositive G v c word f F)
       (go_on : (x : X) (Q : Vector A) → IsPutAt R G f F x Q → Crosses R IsPositive v Q (add_vector R Q (G.vector x)) → SomeEnd n) where
     end_before_side : (x : X) (Q : Vector A) → LeavesBySide R IsPositive G v f F x Q → IsNonNegative R IsPositive (cross R (G.vector x) (sub_vector R v Q)) → SomeEnd n
-    end_before_side x Q l k = (
-      ends_inside word,
-      (
-        short,
-        record {
-          last = f;
-          put = F;
-          reached = reached;
-          inside = passages.inside_before_side L test g h comes l k;
-          none_met = λ P m. l.no_corner m.corner P m.there m.on_line m.ahead;
-        },
-      ),
-    )
+    end_before_side x Q l k = (ends_inside word, (short, ends.inside_before_side L test g h comes reached l k))
 
     end_at_side : (x : X) (Q : Vector A) → LeavesBySide R IsPositive G v f F x Q → SomeEnd n
     end_at_side x Q l = elim (L.trichotomy (cross R (sub_vector R v Q) (sub_vector R (add_vector R Q (G.vector x)) Q))) [
@@ -81,50 +70,9 @@ module _ {A : Type 0} {R : Operations A} {IsPositive : A → Type 0} (L : IsOrde
 
     end_at_corner : (x : X) (Q : Vector A) → LeavesAtCorner R IsPositive G v f F x Q → SomeEnd n
     end_at_corner x Q l = elim (order.compare L (dot R v Q) (dot R v v)) [
-      | less k ↦ (
-        corner_before_end word,
-        (
-          short,
-          record {
-            last = f;
-            put = F;
-            reached = reached;
-            at = Q;
-            met = record { corner = x; there = l.corner; on_line = l.on_line; ahead = l.ahead; before = k };
-          },
-        ),
-      )
-      | equal e ↦
-          let along : IsAlong R IsPositive v Q = record { parallel = l.on_line; same_way = l.ahead } in (
-            segment word x,
-            (
-              short,
-              record {
-                last = f;
-                put = F;
-                reached = reached;
-                end = subst (λ w. IsPutAt R G f F x w) (sym (chords.equal_of_norm-dot L along (sym e))) l.corner;
-                none_before = λ P m.
-                    let same = l.only m.corner P m.there m.on_line m.ahead in
-                    order.less-ne L _ _ m.before (ap (dot R v) same ∙ e);
-              },
-            ),
-          )
-      | greater k ↦ (
-        ends_inside word,
-        (
-          short,
-          record {
-            last = f;
-            put = F;
-            reached = reached;
-            inside = passages.inside_before_corner L test g h comes l (order.at_most_of_less L _ _ k);
-            none_met = λ P m.
-                let same = l.only m.corner P m.there m.on_line m.ahead in
-                m.not_beyond (subst (λ w. IsLess R IsPositive (dot R v v) (dot R v w)) (sym same) k);
-          },
-        ),
-      )
+      | less k ↦ (corner_before_end word, (short, ends.meets_corner L test g h comes reached l k))
+      | equal e ↦ (segment word x, (short, ends.segment_at_corner L test g h comes reached l (ends.corner_is_end L test g l e)))
+      | greater k ↦ (ends_inside word, (short, ends.inside_before_corner L test g h comes reached l k))
     ]
 
     end_here : SomeEnd n
@@ -134,10 +82,7 @@ module _ {A : Type 0} {R : Operations A} {IsPositive : A → Type 0} (L : IsOrde
       → Reaches R IsPositive G v c word f F → SomeEnd n
   end_after s n zero word f F e h comes reached =
       end_here n word f F (omega arith) h comes reached
-      (λ x Q k cr. (
-        longer word,
-        record { crossings = omega arith; more = x; last = G.twin x; put = add_vector R Q (G.vector x); reached = words.reaches_one_more R IsPositive G v c word s reached k cr },
-      ))
+      (λ x Q k cr. (longer word, ends.longer_by_side L test g h comes reached s (omega arith) k cr))
   end_after s n (suc m) word f F e h comes reached =
       end_here n word f F (omega arith) h comes reached
       (λ x Q k cr.

@@ -13,18 +13,10 @@ use Rattle.fs_paths.specs.SideGluing.{SideGluing, IsSide, AreGluedPolygons, InSe
 use Rattle.fs_paths.specs.Development.{IsPutAt, InPutPolygon}
 use Rattle.fs_paths.specs.StraightPaths.{Crosses, Path, Reaches, IsMet, IsMetBefore}
 use Rattle.fs_paths.specs.Passages.{ComesInto, begins}
-use Rattle.fs_paths.specs.Ends.{PathEnd, outside_sector, segment, corner_before_end, ends_inside, longer, IsEnd}
+use Rattle.fs_paths.specs.Ends.{PathEnd, outside_sector, segment, corner_before_end, ends_inside, longer, crossed_sides, IsEnd}
 use Rattle.fs_paths.proofs.PutPolygons as put_polygons
 use Rattle.fs_paths.proofs.Words as words
 use Rattle.fs_paths.proofs.AlongSide as along_side
-
--- the sides that the path crosses before that end
-abbrev word_of : {X : Type 0} → PathEnd X → List X
-word_of outside_sector = []
-word_of (segment word y) = word
-word_of (corner_before_end word) = word
-word_of (ends_inside word) = word
-word_of (longer word) = word
 
 module _ {A : Type 0} {R : Operations A} {IsPositive : A → Type 0} (L : IsOrderedRing R IsPositive)
     {is_ahead : Vector A → Vector A → Bool} (test : DecidesHalfPlanes R IsPositive is_ahead)
@@ -59,7 +51,7 @@ module _ {A : Type 0} {R : Operations A} {IsPositive : A → Type 0} (L : IsOrde
   EndsIn f F (longer word) = (length word ≡ n) × Strict × CrossesFrom f F
 
   abbrev Reached : PathEnd X → Type 0
-  Reached a = (f : X) × (F : Vector A) × Reach (word_of a) f F × EndsIn f F a
+  Reached a = (f : X) × (F : Vector A) × Reach (crossed_sides a) f F × EndsIn f F a
 
   -- each end but the first is that of a path that reaches a polygon
   reached : (a : PathEnd X) → End a → (¬ InSectorOf R IsPositive G c v × (a ≡ outside_sector)) ⊎ Reached a
@@ -71,7 +63,7 @@ module _ {A : Type 0} {R : Operations A} {IsPositive : A → Type 0} (L : IsOrde
       let last = words.reaches_last R IsPositive G v c word h.more h.last h.put h.reached in
       inr (last.0, last.1, last.3, (h.crossings, words.strict_of_reaches R IsPositive G v c word h.more h.last h.put h.reached, (h.more, last.2, last.4, last.5)))
 
-  word_length : (f : X) (F : Vector A) (a : PathEnd X) → EndsIn f F a → length (word_of a) ≤ n
+  word_length : (f : X) (F : Vector A) (a : PathEnd X) → EndsIn f F a → length (crossed_sides a) ≤ n
   word_length f F outside_sector h = absurd h
   word_length f F (segment word y) h = h.0
   word_length f F (corner_before_end word) h = h.0
@@ -88,7 +80,7 @@ module _ {A : Type 0} {R : Operations A} {IsPositive : A → Type 0} (L : IsOrde
   -- ---- the ends exclude each other
 
   module _ (f : X) (F : Vector A) (h : IsSide G f) (comes : Strict → ComesInto R IsPositive G v f F) where
-    crosses_or_ends : (a : PathEnd X) → Strict → EndsIn f F a → CrossesFrom f F → length (word_of a) ≡ n
+    crosses_or_ends : (a : PathEnd X) → Strict → EndsIn f F a → CrossesFrom f F → length (crossed_sides a) ≡ n
     crosses_or_ends outside_sector s k m = absurd k
     crosses_or_ends (segment word y) s k m = absurd (words.not_crossed_at_end L test g h (comes s) m.2 m.3 k.1)
     crosses_or_ends (corner_before_end word) s k m =
@@ -96,7 +88,7 @@ module _ {A : Type 0} {R : Operations A} {IsPositive : A → Type 0} (L : IsOrde
     crosses_or_ends (ends_inside word) s k m = absurd (words.not_crossed_inside L test g m.2 m.3 k.1)
     crosses_or_ends (longer word) s k m = k.0
 
-    same_end : v ≢ zero_vector R → (a o : PathEnd X) → EndsIn f F a → EndsIn f F o → word_of a ≡ word_of o → a ≡ o
+    same_end : v ≢ zero_vector R → (a o : PathEnd X) → EndsIn f F a → EndsIn f F o → crossed_sides a ≡ crossed_sides o → a ≡ o
     same_end some outside_sector o k m e = absurd k
     same_end some (segment word y) outside_sector k m e = absurd m
     same_end some (segment word y) (segment other z) k m e = λ i. segment (e i) (put_polygons.put_corner_unique L test g h k.1 m.1 i)
@@ -128,49 +120,49 @@ module _ {A : Type 0} {R : Operations A} {IsPositive : A → Type 0} (L : IsOrde
 
   -- no word of an end goes on after another one
   no_more : Strict → (a : PathEnd X) (f e : X) (F M : Vector A) (more other : List X) → IsSide G f → ComesInto R IsPositive G v f F → EndsIn f F a → length other ≤ n
-      → other ≡ word_of a ++ more → Walk f F more e M → more ≡ []
+      → other ≡ crossed_sides a ++ more → Walk f F more e M → more ≡ []
   no_more s a f e F M [] other h k m l z p = refl
   no_more s a f e F M (x ∷ more) other h k m l z p =
       let end = crosses_or_ends f F h (λ t. k) a s m (x, p.0, p.1, p.2) in
-      let more = longer_word (word_of a) more other x z in
+      let more = longer_word (crossed_sides a) more other x z in
       absurd (omega arith)
 
   nothing_more : (word other more : List X) → other ≡ word ++ more → more ≡ [] → word ≡ other
   nothing_more word other more e z = sym (e ∙ ap (λ r. word ++ r) z ∙ append-nil word)
 
   module _ (hc : IsSide G c) where
-    same_word : Strict → (a o : PathEnd X) (f e : X) (F M : Vector A) → Reach (word_of a) f F → Reach (word_of o) e M → EndsIn f F a → EndsIn e M o
-        → (word_of a ≡ word_of o) × (e ≡ f) × (M ≡ F)
-    same_word s a o f e F M k j m l = go (words.paths_continue L test g (word_of a) (word_of o) c f e (zero_vector R) F M hc start first second)
+    same_word : Strict → (a o : PathEnd X) (f e : X) (F M : Vector A) → Reach (crossed_sides a) f F → Reach (crossed_sides o) e M → EndsIn f F a → EndsIn e M o
+        → (crossed_sides a ≡ crossed_sides o) × (e ≡ f) × (M ≡ F)
+    same_word s a o f e F M k j m l = go (words.paths_continue L test g (crossed_sides a) (crossed_sides o) c f e (zero_vector R) F M hc start first second)
       where
         start : ComesInto R IsPositive G v c (zero_vector R)
         start = begins refl s
 
-        first : Walk c (zero_vector R) (word_of a) f F
-        first = words.path_of_reaches R IsPositive G v c (word_of a) f F k
+        first : Walk c (zero_vector R) (crossed_sides a) f F
+        first = words.path_of_reaches R IsPositive G v c (crossed_sides a) f F k
 
-        second : Walk c (zero_vector R) (word_of o) e M
-        second = words.path_of_reaches R IsPositive G v c (word_of o) e M j
+        second : Walk c (zero_vector R) (crossed_sides o) e M
+        second = words.path_of_reaches R IsPositive G v c (crossed_sides o) e M j
 
         at_first : IsSide G f × ComesInto R IsPositive G v f F
-        at_first = words.path_comes_into L test g (word_of a) c f (zero_vector R) F hc start first
+        at_first = words.path_comes_into L test g (crossed_sides a) c f (zero_vector R) F hc start first
 
         at_second : IsSide G e × ComesInto R IsPositive G v e M
-        at_second = words.path_comes_into L test g (word_of o) c e (zero_vector R) M hc start second
+        at_second = words.path_comes_into L test g (crossed_sides o) c e (zero_vector R) M hc start second
 
-        go : ((more : List X) × (word_of o ≡ word_of a ++ more) × Walk f F more e M) ⊎ ((more : List X) × (word_of a ≡ word_of o ++ more) × Walk e M more f F)
-            → (word_of a ≡ word_of o) × (e ≡ f) × (M ≡ F)
+        go : ((more : List X) × (crossed_sides o ≡ crossed_sides a ++ more) × Walk f F more e M) ⊎ ((more : List X) × (crossed_sides a ≡ crossed_sides o ++ more) × Walk e M more f F)
+            → (crossed_sides a ≡ crossed_sides o) × (e ≡ f) × (M ≡ F)
         go (inl r) =
-            let none = no_more s a f e F M r.0 (word_of o) at_first.0 at_first.1 m (word_length e M o l) r.1 r.2 in
+            let none = no_more s a f e F M r.0 (crossed_sides o) at_first.0 at_first.1 m (word_length e M o l) r.1 r.2 in
             let same = subst (λ w. Walk f F w e M) none r.2 in
-            (nothing_more (word_of a) (word_of o) r.0 r.1 none, same.0, same.1)
+            (nothing_more (crossed_sides a) (crossed_sides o) r.0 r.1 none, same.0, same.1)
         go (inr r) =
-            let none = no_more s o e f M F r.0 (word_of a) at_second.0 at_second.1 l (word_length f F a m) r.1 r.2 in
+            let none = no_more s o e f M F r.0 (crossed_sides a) at_second.0 at_second.1 l (word_length f F a m) r.1 r.2 in
             let same = subst (λ w. Walk e M w f F) none r.2 in
-            (sym (nothing_more (word_of o) (word_of a) r.0 r.1 none), sym same.0, sym same.1)
+            (sym (nothing_more (crossed_sides o) (crossed_sides a) r.0 r.1 none), sym same.0, sym same.1)
 
     end_of_same : v ≢ zero_vector R → (a o : PathEnd X) (f e : X) (F M : Vector A) → IsSide G f → (Strict → ComesInto R IsPositive G v f F)
-        → (word_of a ≡ word_of o) × (e ≡ f) × (M ≡ F) → EndsIn f F a → EndsIn e M o → a ≡ o
+        → (crossed_sides a ≡ crossed_sides o) × (e ≡ f) × (M ≡ F) → EndsIn f F a → EndsIn e M o → a ≡ o
     end_of_same some a o f e F M h comes same k m = same_end f F h comes some a o k (subst (λ x. EndsIn x F o) same.1 (subst (λ w. EndsIn e w o) same.2 m)) same.0
 
     -- any two ends of a path are the same
@@ -178,17 +170,17 @@ module _ {A : Type 0} {R : Operations A} {IsPositive : A → Type 0} (L : IsOrde
     end_unique a o k j = go (reached a k) (reached o j)
       where
         in_sector : (d : PathEnd X) → Reached d → InSectorOf R IsPositive G c v
-        in_sector d r = words.sector_of_reaches R IsPositive G v c (word_of d) r.0 r.1 r.2
+        in_sector d r = words.sector_of_reaches R IsPositive G v c (crossed_sides d) r.0 r.1 r.2
 
         by_sector : InSectorOf R IsPositive G c v → Reached a → Reached o → a ≡ o
         by_sector (at_start h) r t =
-            let first = along_side.no_word_along_side L test g (word_of a) r.0 r.1 h r.2 in
-            let second = along_side.no_word_along_side L test g (word_of o) t.0 t.1 h t.2 in
+            let first = along_side.no_word_along_side L test g (crossed_sides a) r.0 r.1 h r.2 in
+            let second = along_side.no_word_along_side L test g (crossed_sides o) t.0 t.1 h t.2 in
             end_of_same (directions.dot_positive-ne-zero_right L h.same_way) a o r.0 t.0 r.1 t.1 (subst (IsSide G) (sym first.1) hc)
             (λ s. absurd (turns.along_not_left L h s.left_of_start)) (first.0 ∙ sym second.0, second.1 ∙ sym first.1, second.2 ∙ sym first.2) r.3 t.3
         by_sector (inside p q) r t =
             let s : Strict = record { left_of_start = p; right_of_end = q } in
-            let there = words.path_comes_into L test g (word_of a) c r.0 (zero_vector R) r.1 hc (begins refl s) (words.path_of_reaches R IsPositive G v c (word_of a) r.0 r.1 r.2) in
+            let there = words.path_comes_into L test g (crossed_sides a) c r.0 (zero_vector R) r.1 hc (begins refl s) (words.path_of_reaches R IsPositive G v c (crossed_sides a) r.0 r.1 r.2) in
             end_of_same (directions.cross_positive-ne-zero_right L p) a o r.0 t.0 r.1 t.1 there.0 (λ z. there.1) (same_word s a o r.0 t.0 r.1 t.1 r.2 t.2 r.3 t.3) r.3 t.3
 
         go : (¬ InSectorOf R IsPositive G c v × (a ≡ outside_sector)) ⊎ Reached a → (¬ InSectorOf R IsPositive G c v × (o ≡ outside_sector)) ⊎ Reached o → a ≡ o
@@ -196,3 +188,34 @@ module _ {A : Type 0} {R : Operations A} {IsPositive : A → Type 0} (L : IsOrde
         go (inl r) (inr t) = absurd (r.0 (in_sector o t))
         go (inr r) (inl t) = absurd (t.0 (in_sector a r))
         go (inr r) (inr t) = by_sector (in_sector a r) r t
+
+    -- where a path from c crosses the sides of a word, no more than n, its end within n crossings has a word that continues it
+    pub end_continues : (word : List X) (f : X) (F : Vector A) → Reaches R IsPositive G v c word f F → (a : PathEnd X) → IsEnd R IsPositive G c v n a → length word ≤ n
+        → (more : List X) × (crossed_sides a ≡ word ++ more)
+    end_continues word f F k a j short = go (reached a j)
+      where
+        strictly : Strict → Reached a → (more : List X) × (crossed_sides a ≡ word ++ more)
+        strictly s r = next (words.paths_continue L test g word (crossed_sides a) c f r.0 (zero_vector R) F r.1 hc (begins refl s) (words.path_of_reaches R IsPositive G v c word f F k) there)
+          where
+            there : Walk c (zero_vector R) (crossed_sides a) r.0 r.1
+            there = words.path_of_reaches R IsPositive G v c (crossed_sides a) r.0 r.1 r.2
+
+            at_end : IsSide G r.0 × ComesInto R IsPositive G v r.0 r.1
+            at_end = words.path_comes_into L test g (crossed_sides a) c r.0 (zero_vector R) r.1 hc (begins refl s) there
+
+            next : ((more : List X) × (crossed_sides a ≡ word ++ more) × Walk f F more r.0 r.1) ⊎ ((more : List X) × (word ≡ crossed_sides a ++ more) × Walk r.0 r.1 more f F)
+                → (more : List X) × (crossed_sides a ≡ word ++ more)
+            next (inl m) = (m.0, m.1)
+            next (inr m) =
+                let none = no_more s a r.0 f r.1 F m.0 word at_end.0 at_end.1 r.3 short m.1 m.2 in
+                ([], nothing_more (crossed_sides a) word m.0 m.1 none ∙ sym (append-nil word))
+
+        by_sector : InSectorOf R IsPositive G c v → Reached a → (more : List X) × (crossed_sides a ≡ word ++ more)
+        by_sector (at_start h) r =
+            let none = along_side.no_word_along_side L test g word f F h k in
+            (crossed_sides a, ap (λ w. w ++ crossed_sides a) (sym none.0))
+        by_sector (inside p q) r = strictly (record { left_of_start = p; right_of_end = q }) r
+
+        go : (¬ InSectorOf R IsPositive G c v × (a ≡ outside_sector)) ⊎ Reached a → (more : List X) × (crossed_sides a ≡ word ++ more)
+        go (inl r) = absurd (r.0 (words.sector_of_reaches R IsPositive G v c word f F k))
+        go (inr r) = by_sector (words.sector_of_reaches R IsPositive G v c word f F k) r

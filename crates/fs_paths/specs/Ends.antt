@@ -1,5 +1,5 @@
 -- The end of a straight path, as one value: which of the ways it ends in, and across which sides. A library for crates to come.
-use Rattle.std.specs.Prelude.{ℕ, List, length, ◌≤◌}
+use Rattle.std.specs.Prelude.{ℕ, List, [], length, ◌≤◌}
 use Rattle.fs_ring.specs.Operations.{Operations}
 use Rattle.fs_ring.specs.Vector.{Vector}
 use Rattle.fs_paths.specs.SideGluing.{SideGluing, InSectorOf}
@@ -13,6 +13,14 @@ pub data PathEnd (X : Type 0) : Type 0 where
   corner_before_end : List X → PathEnd X
   ends_inside : List X → PathEnd X
   longer : List X → PathEnd X
+
+-- the word of the path before that end: the sides that it crosses
+abbrev pub crossed_sides : {X : Type 0} → PathEnd X → List X
+crossed_sides outside_sector = []
+crossed_sides (segment word y) = word
+crossed_sides (corner_before_end word) = word
+crossed_sides (ends_inside word) = word
+crossed_sides (longer word) = word
 
 module _ {A : Type 0} (R : Operations A) (IsPositive : A → Type 0) {X : Type 0} (G : SideGluing X A) (c : X) (v : Vector A) (n : ℕ) where
   -- the path from the corner c along v ends so, within n crossings; or it is longer, and the word has the first n sides
