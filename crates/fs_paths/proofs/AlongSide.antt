@@ -27,9 +27,7 @@ module _ {A : Type 0} {R : Operations A} {IsPositive : A → Type 0} (L : IsOrde
   abbrev Put : X → Vector A → X → Vector A → Type 0
   Put b B x Q = IsPutAt R G b B x Q
 
-  -- ---- a path along the side at which it begins
-
-  -- it crosses no side
+  -- a path along the side at which it begins crosses no side
   pub no_word_along_side : {c : X} {v : Vector A} (word : List X) (f : X) (F : Vector A) → IsAlong R IsPositive (G.vector c) v → Reaches R IsPositive G v c word f F
       → (word ≡ []) × (f ≡ c) × (F ≡ zero_vector R)
   no_word_along_side [] f F h k = (refl, k.1, k.2)
@@ -41,7 +39,7 @@ module _ {A : Type 0} {R : Operations A} {IsPositive : A → Type 0} (L : IsOrde
       (vector_identity L.ring [] (G.vector c ∷ []) (λ u. add_vector E (zero_vector E) u ≐ᵥ u) refl)
       (developments.put_next (developments.put_refl c (zero_vector R)))
 
-  -- the first corner that it meets is the end of the side
+  -- the end of that side is the first corner that the path meets
   pub first_met_along_side : {c y : X} {v Q : Vector A} → IsSide G c → IsAlong R IsPositive (G.vector c) v → Put c (zero_vector R) y Q → cross R v Q ≡ R.zero → IsPositive (dot R v Q)
       → IsAtMost R IsPositive (dot R v (G.vector c)) (dot R v Q)
   first_met_along_side {c} {y} {v} {Q} h a k z p = go (exits.corner_ahead_on_side L test (developments.put_polygon L test g c (zero_vector R) h) refl a below.0 below.1
@@ -62,7 +60,7 @@ module _ {A : Type 0} {R : Operations A} {IsPositive : A → Type 0} (L : IsOrde
           (directions.along_dot L (sub_vector R Q (add_vector R (zero_vector R) (G.vector c))) a
           (subst (λ w. IsPositive (dot R (G.vector c) (sub_vector R w (add_vector R (zero_vector R) (G.vector c))))) below.3 r)))
 
-  -- where v is the side, the path ends at the side's end
+  -- where v is the vector of the side, the path ends at the side's end
   pub segment_along_side : (c : X) → IsSide G c → G.vector c ≢ zero_vector R → IsSegment R IsPositive G c [] (G.vector c) (G.next c)
   segment_along_side c h some =
       let a = directions.along_self L (G.vector c) some in

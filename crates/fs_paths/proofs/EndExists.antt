@@ -1,7 +1,7 @@
 -- A straight path has an end, within any number of crossings. A library for crates to come.
-use Rattle.std.proofs.Common.{◌≡◌, ◌⊎◌, ℕ, Bool, zero, suc, ◌+◌, ◌≤◌, List, [], ◌∷◌, ◌++◌, length, refl, sym, ap, ◌∙◌, subst, inl, inr, arith, zero-add, length-append}
+use Rattle.std.proofs.Common.{◌≡◌, ◌⊎◌, ℕ, Bool, zero, suc, ◌+◌, ◌≤◌, List, [], ◌∷◌, ◌++◌, length, refl, sym, subst, inl, inr, arith, zero-add, length-append}
 use Rattle.fs_ring.specs.Operations.{Operations}
-use Rattle.fs_ring.specs.OrderedRing.{IsOrderedRing, Sign, positive, null, negative, less, equal, greater, IsLess, IsNonNegative}
+use Rattle.fs_ring.specs.OrderedRing.{IsOrderedRing, Sign, positive, null, negative, less, equal, greater, IsNonNegative}
 use Rattle.fs_ring.specs.Vector.{Vector, zero_vector, add_vector, sub_vector, neg_vector, cross, dot, norm}
 use Rattle.fs_ring.specs.Direction.{IsAlong, InSector, at_start, inside}
 use Rattle.fs_ring.proofs.Signs as signs
@@ -104,7 +104,7 @@ module _ {A : Type 0} {R : Operations A} {IsPositive : A → Type 0} (L : IsOrde
       | greater l ↦ (corner_before_end [], (omega arith, along_side.corner_along_side L test g h a l))
     ]
 
-    -- some end is that of the path, within any number of crossings
+    -- a path has an end, within any number of crossings
     pub end_exists : (n : ℕ) → (a : PathEnd X) × IsEnd R IsPositive G c v n a
     end_exists n = go (decide_sector L (G.vector c) (neg_vector R (G.vector (G.prev c))) v)
       where
@@ -115,7 +115,7 @@ module _ {A : Type 0} {R : Operations A} {IsPositive : A → Type 0} (L : IsOrde
             let s : StrictlyInSectorOf R IsPositive G c v = record { left_of_start = p; right_of_end = q } in
             end_after s n n [] c (zero_vector R) (zero-add n) h (begins refl s) (inside p q, refl, refl)
 
-    -- along that side the path is a segment only where v is the side
+    -- a path along the side at which it begins ends at a corner only where v is the vector of the side, and then at the side's end
     pub segment_along_side_is_side : IsAlong R IsPositive (G.vector c) v → (word : List X) (y : X) → IsSegment R IsPositive G c word v y → (v ≡ G.vector c) × (word ≡ []) × (y ≡ G.next c)
     segment_along_side_is_side a word y k = elim (order.compare L (norm R v) (norm R (G.vector c))) [
       | less l ↦ absurd (let e = same (ends_inside []) (omega arith, along_side.inside_along_side L test g h a l) in cc)

@@ -27,8 +27,8 @@ module _ {A : Type 0} {R : Operations A} {IsPositive : A → Type 0} (L : IsOrde
   abbrev End : PathEnd X → Type 0
   End a = IsEnd R IsPositive G c v n a
 
-  abbrev Walk : X → Vector A → List X → X → Vector A → Type 0
-  Walk b B word f F = Path R IsPositive G v b B word f F
+  abbrev PathTo : X → Vector A → List X → X → Vector A → Type 0
+  PathTo b B word f F = Path R IsPositive G v b B word f F
 
   abbrev Reach : List X → X → Vector A → Type 0
   Reach word f F = Reaches R IsPositive G v c word f F
@@ -120,7 +120,7 @@ module _ {A : Type 0} {R : Operations A} {IsPositive : A → Type 0} (L : IsOrde
 
   -- no word of an end goes on after another one
   no_more : Strict → (a : PathEnd X) (f e : X) (F M : Vector A) (more other : List X) → IsSide G f → ComesInto R IsPositive G v f F → EndsIn f F a → length other ≤ n
-      → other ≡ crossed_sides a ++ more → Walk f F more e M → more ≡ []
+      → other ≡ crossed_sides a ++ more → PathTo f F more e M → more ≡ []
   no_more s a f e F M [] other h k m l z p = refl
   no_more s a f e F M (x ∷ more) other h k m l z p =
       let end = crosses_or_ends f F h (λ t. k) a s m (x, p.0, p.1, p.2) in
@@ -138,10 +138,10 @@ module _ {A : Type 0} {R : Operations A} {IsPositive : A → Type 0} (L : IsOrde
         start : ComesInto R IsPositive G v c (zero_vector R)
         start = begins refl s
 
-        first : Walk c (zero_vector R) (crossed_sides a) f F
+        first : PathTo c (zero_vector R) (crossed_sides a) f F
         first = words.path_of_reaches R IsPositive G v c (crossed_sides a) f F k
 
-        second : Walk c (zero_vector R) (crossed_sides o) e M
+        second : PathTo c (zero_vector R) (crossed_sides o) e M
         second = words.path_of_reaches R IsPositive G v c (crossed_sides o) e M j
 
         at_first : IsSide G f × ComesInto R IsPositive G v f F
@@ -150,15 +150,15 @@ module _ {A : Type 0} {R : Operations A} {IsPositive : A → Type 0} (L : IsOrde
         at_second : IsSide G e × ComesInto R IsPositive G v e M
         at_second = words.path_comes_into L test g (crossed_sides o) c e (zero_vector R) M hc start second
 
-        go : ((more : List X) × (crossed_sides o ≡ crossed_sides a ++ more) × Walk f F more e M) ⊎ ((more : List X) × (crossed_sides a ≡ crossed_sides o ++ more) × Walk e M more f F)
+        go : ((more : List X) × (crossed_sides o ≡ crossed_sides a ++ more) × PathTo f F more e M) ⊎ ((more : List X) × (crossed_sides a ≡ crossed_sides o ++ more) × PathTo e M more f F)
             → (crossed_sides a ≡ crossed_sides o) × (e ≡ f) × (M ≡ F)
         go (inl r) =
             let none = no_more s a f e F M r.0 (crossed_sides o) at_first.0 at_first.1 m (word_length e M o l) r.1 r.2 in
-            let same = subst (λ w. Walk f F w e M) none r.2 in
+            let same = subst (λ w. PathTo f F w e M) none r.2 in
             (nothing_more (crossed_sides a) (crossed_sides o) r.0 r.1 none, same.0, same.1)
         go (inr r) =
             let none = no_more s o e f M F r.0 (crossed_sides a) at_second.0 at_second.1 l (word_length f F a m) r.1 r.2 in
-            let same = subst (λ w. Walk e M w f F) none r.2 in
+            let same = subst (λ w. PathTo e M w f F) none r.2 in
             (sym (nothing_more (crossed_sides o) (crossed_sides a) r.0 r.1 none), sym same.0, sym same.1)
 
     end_of_same : v ≢ zero_vector R → (a o : PathEnd X) (f e : X) (F M : Vector A) → IsSide G f → (Strict → ComesInto R IsPositive G v f F)
@@ -197,13 +197,13 @@ module _ {A : Type 0} {R : Operations A} {IsPositive : A → Type 0} (L : IsOrde
         strictly : Strict → Reached a → (more : List X) × (crossed_sides a ≡ word ++ more)
         strictly s r = next (words.paths_continue L test g word (crossed_sides a) c f r.0 (zero_vector R) F r.1 hc (begins refl s) (words.path_of_reaches R IsPositive G v c word f F k) there)
           where
-            there : Walk c (zero_vector R) (crossed_sides a) r.0 r.1
+            there : PathTo c (zero_vector R) (crossed_sides a) r.0 r.1
             there = words.path_of_reaches R IsPositive G v c (crossed_sides a) r.0 r.1 r.2
 
             at_end : IsSide G r.0 × ComesInto R IsPositive G v r.0 r.1
             at_end = words.path_comes_into L test g (crossed_sides a) c r.0 (zero_vector R) r.1 hc (begins refl s) there
 
-            next : ((more : List X) × (crossed_sides a ≡ word ++ more) × Walk f F more r.0 r.1) ⊎ ((more : List X) × (word ≡ crossed_sides a ++ more) × Walk r.0 r.1 more f F)
+            next : ((more : List X) × (crossed_sides a ≡ word ++ more) × PathTo f F more r.0 r.1) ⊎ ((more : List X) × (word ≡ crossed_sides a ++ more) × PathTo r.0 r.1 more f F)
                 → (more : List X) × (crossed_sides a ≡ word ++ more)
             next (inl m) = (m.0, m.1)
             next (inr m) =

@@ -1,17 +1,20 @@
 -- How a straight path ends in the polygon to which it has come, from how its line leaves that polygon. A library for crates to come.
-use Rattle.std.proofs.Common.{◌≡◌, ◌≢◌, ℕ, Bool, List, [], ◌∷◌, length, refl, sym, ap, ◌∙◌, subst, inl, inr}
+use Rattle.std.proofs.Common.{◌≡◌, ◌≢◌, ℕ, Bool, List, length, sym, ap, ◌∙◌, subst, inl, inr}
 use Rattle.fs_ring.specs.Operations.{Operations}
 use Rattle.fs_ring.specs.OrderedRing.{IsOrderedRing, IsLess, IsAtMost, IsNonNegative}
 use Rattle.fs_ring.specs.Vector.{Vector, add_vector, sub_vector, cross, dot}
 use Rattle.fs_ring.specs.Direction.{IsAlong}
 use Rattle.fs_ring.proofs.Order as order
+use Rattle.fs_ring.proofs.Plane as plane
+use Rattle.fs_ring.proofs.Directions as directions
 use Rattle.fs_ring.proofs.Chords as chords
 use Rattle.fs_convex.specs.Turning.{DecidesHalfPlanes}
 use Rattle.fs_paths.specs.SideGluing.{SideGluing, IsSide, AreGluedPolygons, StrictlyInSectorOf}
 use Rattle.fs_paths.specs.Development.{IsPutAt}
 use Rattle.fs_paths.specs.StraightPaths.{Crosses, Reaches}
 use Rattle.fs_paths.specs.Segments.{IsSegment, MeetsCorner, EndsInside, IsLonger}
-use Rattle.fs_paths.specs.Passages.{ComesInto, LeavesBySide, LeavesAtCorner}
+use Rattle.fs_paths.specs.Passages.{ComesInto, by_side, at_corner, LeavesBySide, LeavesAtCorner}
+use Rattle.fs_paths.proofs.PutPolygons as put_polygons
 use Rattle.fs_paths.proofs.Passages as passages
 use Rattle.fs_paths.proofs.Words as words
 
@@ -65,7 +68,17 @@ module _ {A : Type 0} {R : Operations A} {IsPositive : A → Type 0} (L : IsOrde
       none_before = λ P m. order.less-ne L _ _ m.before (ap (dot R v) (l.only m.corner P m.there m.on_line m.ahead ∙ sym e));
     }
 
-    -- it meets that corner before its end, where v is beyond it
+    -- it ends at the corner of the polygon that is at v, where there is one
+    pub segment_of_corner_at_end : {y : X} → IsPutAt R G f F y v → IsSegment R IsPositive G c word v y
+    segment_of_corner_at_end {y} k = elim (passages.leaves L test g h comes) [
+      | by_side x Q l ↦ absurd (l.no_corner y v k (plane.cross_self L.ring v) (directions.norm_positive L v (passages.comes_into-ne-zero L test g comes)))
+      | at_corner x Q l ↦
+          let same = l.only y v k (plane.cross_self L.ring v) (directions.norm_positive L v (passages.comes_into-ne-zero L test g comes)) in
+          subst (IsSegment R IsPositive G c word v)
+          (put_polygons.put_corner_unique L test g h l.corner (subst (λ w. IsPutAt R G f F y w) same k)) (segment_at_corner l same)
+    ]
+
+    -- it meets the corner at which the line leaves before its end, where v is beyond that corner
     pub meets_corner : {x : X} {Q : Vector A} → LeavesAtCorner R IsPositive G v f F x Q → IsLess R IsPositive (dot R v Q) (dot R v v) → MeetsCorner R IsPositive G c word v
     meets_corner {x} {Q} l k = record {
       last = f;
@@ -75,7 +88,7 @@ module _ {A : Type 0} {R : Operations A} {IsPositive : A → Type 0} (L : IsOrde
       met = record { corner = x; there = l.corner; on_line = l.on_line; ahead = l.ahead; before = k };
     }
 
-    -- it ends inside the polygon, where the corner is beyond v
+    -- it ends inside the polygon, where that corner is beyond v
     pub inside_before_corner : {x : X} {Q : Vector A} → LeavesAtCorner R IsPositive G v f F x Q → IsLess R IsPositive (dot R v v) (dot R v Q) → EndsInside R IsPositive G c word v
     inside_before_corner {x} {Q} l k = record {
       last = f;

@@ -217,6 +217,11 @@ module _ {A : Type 0} {R : Operations A} {IsPositive : A → Type 0} (L : IsOrde
       start_not_right (begins start strict) r = directions.cross_positive-ne-zero_left L r start
       start_not_right (enters l r a f) p = turns.not_both_crosses L l p
 
+  -- a vector along which a path comes into a polygon isn't zero
+  pub comes_into-ne-zero : {v : Vector A} {b : X} {B : Vector A} → ComesInto R IsPositive G v b B → v ≢ zero_vector R
+  comes_into-ne-zero (begins start strict) = directions.cross_positive-ne-zero_right L strict.left_of_start
+  comes_into-ne-zero (enters l r a f) = directions.cross_positive-ne-zero_left L l
+
   -- ---- into the next polygon
 
   -- where a path crosses a side, it comes into the polygon at the other side of it

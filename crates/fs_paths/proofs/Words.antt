@@ -18,12 +18,12 @@ use Rattle.fs_paths.proofs.Passages as passages
 -- ---- words that are continued
 
 module _ {A : Type 0} (R : Operations A) (IsPositive : A → Type 0) {X : Type 0} (G : SideGluing X A) (v : Vector A) where
-  abbrev Walk : X → Vector A → List X → X → Vector A → Type 0
-  Walk b B word f F = Path R IsPositive G v b B word f F
+  abbrev PathTo : X → Vector A → List X → X → Vector A → Type 0
+  PathTo b B word f F = Path R IsPositive G v b B word f F
 
-  -- where the same polygon is put at the same position
+  -- a path from a polygon is one from the same polygon, put at the same position
   pub path_from : (word : List X) (f : X) (F : Vector A) {b c : X} {B C : Vector A} → b ≡ c → B ≡ C → Path R IsPositive G v b B word f F → Path R IsPositive G v c C word f F
-  path_from word f F {b} {c} {B} {C} e d h = subst (λ w. Walk c w word f F) d (subst (λ x. Walk x B word f F) e h)
+  path_from word f F {b} {c} {B} {C} e d h = subst (λ w. PathTo c w word f F) d (subst (λ x. PathTo x B word f F) e h)
 
   -- a path goes on from where it has come
   pub path-append : (word more : List X) (b m f : X) (B M F : Vector A) → Path R IsPositive G v b B word m M → Path R IsPositive G v m M more f F
@@ -39,7 +39,7 @@ module _ {A : Type 0} (R : Operations A) (IsPositive : A → Type 0) {X : Type 0
       let rest = path-split word more (G.twin x) f (add_vector R h.0 (G.vector x)) F h.3 in
       (rest.0, rest.1, (h.0, h.1, h.2, rest.2), rest.3)
 
-  -- what a path from a corner reaches is reached by the polygon's developments
+  -- a path that reaches a polygon from a corner is one from the corner's polygon, put with the corner at (0, 0)
   pub path_of_reaches : (c : X) (word : List X) (f : X) (F : Vector A) → Reaches R IsPositive G v c word f F → Path R IsPositive G v c (zero_vector R) word f F
   path_of_reaches c [] f F h = (h.1, h.2)
   path_of_reaches c (x ∷ word) f F h = h.1
@@ -82,6 +82,15 @@ module _ {A : Type 0} {R : Operations A} {IsPositive : A → Type 0} (L : IsOrde
     {X : Type 0} {G : SideGluing X A} (g : AreGluedPolygons R IsPositive is_ahead G) where
   abbrev Put : X → Vector A → X → Vector A → Type 0
   Put b B x Q = IsPutAt R G b B x Q
+
+  -- two paths with one word lead to one polygon, put at one position
+  pub path_unique : (v : Vector A) (word : List X) (b e f : X) (B M F : Vector A) → IsSide G b → Path R IsPositive G v b B word e M → Path R IsPositive G v b B word f F
+      → (e ≡ f) × (M ≡ F)
+  path_unique v [] b e f B M F h k j = (k.0 ∙ sym j.0, k.1 ∙ sym j.1)
+  path_unique v (x ∷ word) b e f B M F h k j =
+      let same = developments.put_position_unique L test g h k.1 j.1 in
+      let next = path_from R IsPositive G v word f F refl (sym (ap (λ w. add_vector R w (G.vector x)) same)) j.3 in
+      path_unique v word (G.twin x) e f (add_vector R k.0 (G.vector x)) M F (g.twin_side x (developments.put_is_side L test g h k.1)) k.3 next
 
   -- the path comes into the polygon that it reaches
   pub path_comes_into : {v : Vector A} (word : List X) (b f : X) (B F : Vector A) → IsSide G b → ComesInto R IsPositive G v b B → Path R IsPositive G v b B word f F
