@@ -81,7 +81,7 @@ module _ {A : Type 0} {R : Operations A} {IsPositive : A → Type 0} (L : IsOrde
         last = c;
         put = zero_vector R;
         reached = (at_start a, refl, refl);
-        inside = passages.inside_from_corner L test g h refl (end_of_side c) (directions.dot_positive-ne-zero_right L a.same_way) back.parallel (order.at_most_of_less L _ _ before);
+        inside = passages.in_polygon_from_corner L test g h refl (end_of_side c) (directions.dot_positive-ne-zero_right L a.same_way) back.parallel (order.at_most_of_less L _ _ before);
         none_met = λ Q m. m.not_beyond (order.less_of_less_at_most L _ _ _ before (first_met_along_side h a m.there m.on_line m.ahead));
       }
 

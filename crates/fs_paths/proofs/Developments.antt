@@ -103,11 +103,12 @@ module _ {A : Type 0} {R : Operations A} {IsPositive : A → Type 0} (L : IsOrde
       (λ b p q v. add_vector E (add_vector E b (sub_vector E p q)) v ≐ᵥ add_vector E b (sub_vector E (add_vector E p v) q)) refl
       ∙ ap (λ w. add_vector R B (sub_vector R w (g.position b))) (sym next)
 
-  -- where a side of a put polygon begins: at one position
+  -- where a side of a put polygon begins
   pub put_position : {b x : X} {B Q : Vector A} → IsSide G b → Put b B x Q → Q ≡ add_vector R B (sub_vector R (g.position x) (g.position b))
   put_position {b} {x} {B} {Q} h k =
       sym k.corner ∙ position_of_number b B h k.number ∙ (λ i. add_vector R B (sub_vector R (g.position (k.side i)) (g.position b)))
 
+  -- two positions of one side of a put polygon are the same
   pub put_position_unique : {b x : X} {B P Q : Vector A} → IsSide G b → Put b B x P → Put b B x Q → P ≡ Q
   put_position_unique h j k = put_position h j ∙ sym (put_position h k)
 

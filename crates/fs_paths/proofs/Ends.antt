@@ -43,7 +43,7 @@ module _ {A : Type 0} {R : Operations A} {IsPositive : A → Type 0} (L : IsOrde
       last = f;
       put = F;
       reached = reached;
-      inside = passages.inside_before_side L test g h comes l k;
+      inside = passages.in_polygon_before_side L test g h comes l k;
       none_met = λ P m. l.no_corner m.corner P m.there m.on_line m.ahead;
     }
 
@@ -94,6 +94,6 @@ module _ {A : Type 0} {R : Operations A} {IsPositive : A → Type 0} (L : IsOrde
       last = f;
       put = F;
       reached = reached;
-      inside = passages.inside_before_corner L test g h comes l (order.at_most_of_less L _ _ k);
+      inside = passages.in_polygon_before_corner L test g h comes l (order.at_most_of_less L _ _ k);
       none_met = λ P m. m.not_beyond (subst (λ w. IsLess R IsPositive (dot R v v) (dot R v w)) (sym (l.only m.corner P m.there m.on_line m.ahead)) k);
     }

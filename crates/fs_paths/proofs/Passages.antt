@@ -338,9 +338,9 @@ module _ {A : Type 0} {R : Operations A} {IsPositive : A → Type 0} (L : IsOrde
   )
 
   -- where the line leaves a polygon by a side, and v isn't beyond it, the path ends in the polygon
-  pub inside_before_side : {v : Vector A} {b x : X} {B Q : Vector A} → IsSide G b → ComesInto R IsPositive G v b B → LeavesBySide R IsPositive G v b B x Q
+  pub in_polygon_before_side : {v : Vector A} {b x : X} {B Q : Vector A} → IsSide G b → ComesInto R IsPositive G v b B → LeavesBySide R IsPositive G v b B x Q
       → IsNonNegative R IsPositive (cross R (G.vector x) (sub_vector R v Q)) → InPutPolygon R G IsPositive b B v
-  inside_before_side {v} {b} {x} {B} {Q} h c l before = inside_between (entry_of h c) (
+  in_polygon_before_side {v} {b} {x} {B} {Q} h c l before = inside_between (entry_of h c) (
     cross R Q (add_vector R Q (G.vector x)),
     R.add (cross R v (add_vector R Q (G.vector x))) (cross R Q v),
     order.at_most_of_sub L _ _
@@ -351,12 +351,12 @@ module _ {A : Type 0} {R : Operations A} {IsPositive : A → Type 0} (L : IsOrde
   )
 
   -- where the line leaves a polygon at a corner, and v isn't beyond it, the path ends in the polygon
-  pub inside_before_corner : {v : Vector A} {b x : X} {B Q : Vector A} → IsSide G b → ComesInto R IsPositive G v b B → LeavesAtCorner R IsPositive G v b B x Q
+  pub in_polygon_before_corner : {v : Vector A} {b x : X} {B Q : Vector A} → IsSide G b → ComesInto R IsPositive G v b B → LeavesAtCorner R IsPositive G v b B x Q
       → IsAtMost R IsPositive (dot R v v) (dot R v Q) → InPutPolygon R G IsPositive b B v
-  inside_before_corner h c l before =
+  in_polygon_before_corner h c l before =
       inside_between (entry_of h c) (end_at_corner h l.corner (directions.dot_positive-ne-zero_left L l.ahead) l.on_line before)
 
   -- so does a path from a corner of the polygon along a line that meets another one, where v isn't beyond that
-  pub inside_from_corner : {v : Vector A} {b x : X} {B Q : Vector A} → IsSide G b → B ≡ zero_vector R → Put b B x Q → v ≢ zero_vector R → cross R v Q ≡ R.zero
+  pub in_polygon_from_corner : {v : Vector A} {b x : X} {B Q : Vector A} → IsSide G b → B ≡ zero_vector R → Put b B x Q → v ≢ zero_vector R → cross R v Q ≡ R.zero
       → IsAtMost R IsPositive (dot R v v) (dot R v Q) → InPutPolygon R G IsPositive b B v
-  inside_from_corner {v} h start k some z before = inside_between (entry_at_start v h start) (end_at_corner h k some z before)
+  in_polygon_from_corner {v} h start k some z before = inside_between (entry_at_start v h start) (end_at_corner h k some z before)
