@@ -1,0 +1,6 @@
+pub mod SideGluing
+pub mod Development
+pub mod StraightPaths
+pub mod Segments
+pub mod Passages
+pub mod Ends
