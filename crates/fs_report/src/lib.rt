@@ -3,6 +3,7 @@
 
 mod answers;
 mod areas;
+mod digits;
 mod lines;
 mod stratum;
 
