@@ -21,7 +21,8 @@ pub enum Site {
         side: u32,
         place: u32,
     },
-    /// The cross product of the two sides at a corner, by its three places.
+    /// The test of the two sides at a corner: places 1 to 3 are their cross product, places 4 to 6
+    /// their dot product, where the cross product is 0 and straight corners are allowed.
     Corner {
         polygon: u32,
         side: u32,
@@ -67,7 +68,7 @@ impl Site {
         }
     }
 
-    /// The site of the cross product at a corner, by its place.
+    /// The site of the test of a corner, by its place.
     pub fn convexity(corner: Corner, place: u32) -> Site
         ensures { result ≡ Site.Corner corner.polygon corner.side place }
     {
