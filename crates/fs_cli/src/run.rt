@@ -50,6 +50,7 @@ fn answer<O: Sink>(alloc: Global, bytes: &[u8], out: &mut O) -> Status
 /// No word is admitted. `Refused` writes the line of the first fault. `Partial` writes the line of
 /// the site where building overflowed, or the answers to the commands in order, of which at least
 /// one isn't whole. `Done` writes the answers to the commands in order: nothing where there are none.
+#[tactic(auto, using(crate::proofs::CallWrites::nothing_begins))]
 pub fn flat<I: Source, O: Sink>(
     alloc: Global,
     words: &[String],

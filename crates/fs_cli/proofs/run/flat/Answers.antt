@@ -1,6 +1,6 @@
 use Rattle.std.proofs.Common.{List, ℕ, Err, sym, ap, subst}
 use Rattle.std.specs.Io.KnownBytes.{Consumes}
-use Rattle.fs_cli.proofs.CallWrites.{all_read, nothing_begins, too_long_begins, too_long_only}
+use Rattle.fs_cli.proofs.CallWrites.{all_read, too_long_begins, too_long_only}
 use Rattle.fs_cli.proofs.run.flat.Goals as goal
 
 pub returns-in-Ok-clause-whole : goal.returns-in-Ok-clause-whole
@@ -32,6 +32,3 @@ pub returns-in-Err-TooLong-clause-broken : goal.returns-in-Err-TooLong-clause-br
 returns-in-Err-TooLong-clause-broken g c = λ broken.
     let long = c.in-Err-TooLong.ensures.too_long (ap Err c.in-Err-TooLong.field-0-is) in
     too_long_begins _ _ long.0 _ _ long.1 long.2 (c.refuse.ensures.broken broken)
-
-pub returns-in-Err-NoMemory-clause-broken : goal.returns-in-Err-NoMemory-clause-broken
-returns-in-Err-NoMemory-clause-broken g c = λ _. nothing_begins _ _
