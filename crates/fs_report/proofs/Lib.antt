@@ -4,4 +4,3 @@ pub mod ListTexts
 pub mod UnscaledArea
 pub mod StratumText
 pub mod AnswersUnique
-pub mod LastDigit

@@ -3,7 +3,6 @@
 
 mod answers;
 mod areas;
-mod digits;
 mod lines;
 mod stratum;
 

@@ -11,7 +11,6 @@ ghost use Rattle.fs_report.specs.Text.{AnswersStratum, with_commas, stratum_line
 
 use crate::answers::Answer;
 use crate::areas::find_area;
-use crate::digits::add_decimal;
 use crate::lines::overflow_line;
 use fs_fraction::{Frac, NoMemory, print_number};
 use fs_gluing::{Sequence, Surface};
@@ -95,10 +94,11 @@ fn with_commas(alloc: Global, numbers: &[u32]) -> Result<String, AllocError>
 fn add_number(text: &mut String, first: bool, number: u32) -> Result<(), AllocError>
     ensures { OnOk result (string_bytes text.new ≡ string_bytes text.old ++ (if first then decimal number else codes "," ++ decimal number)) }
 {
-    if !first {
-        text.push(',')?;
+    if first {
+        write!(text, "{number}")
+    } else {
+        write!(text, ",{number}")
     }
-    add_decimal(text, number)
 }
 
 // Adds a line for each vertex.
@@ -115,11 +115,6 @@ fn add_vertices(text: &mut String, cones: &[Cone]) -> Result<(), AllocError>
 fn add_vertex(text: &mut String, cone: &Cone) -> Result<(), AllocError>
     ensures { OnOk result (string_bytes text.new ≡ string_bytes text.old ++ vertex_line cone.now) }
 {
-    text.push_str("vertex ")?;
-    add_decimal(text, u32::from(cone.first.polygon))?;
-    text.push('.')?;
-    add_decimal(text, u32::from(cone.first.side))?;
-    text.push_str(" turns ")?;
-    add_decimal(text, cone.k)?;
-    text.push('\n')
+    let (polygon, side, k) = (cone.first.polygon, cone.first.side, cone.k);
+    write!(text, "vertex {polygon}.{side} turns {k}\n")
 }
