@@ -1,5 +1,5 @@
 -- What holds of each item of a list.
-use Rattle.std.proofs.Common.{◌≡◌, ℕ, zero, suc, ◌+◌, ◌<◌, List, [], ◌∷◌, ◌++◌, Some, map, length, get_or, refl, subst, arith}
+use Rattle.std.proofs.Common.{◌≡◌, ℕ, zero, suc, ◌+◌, ◌<◌, List, [], ◌∷◌, ◌++◌, Some, map, refl, subst, arith}
 use Rattle.std.proofs.lemmas.Option.{same_Some}
 use Rattle.std.specs.List.{AllByRecursion, slice_get, range_with_len}
 
@@ -44,11 +44,6 @@ All-weaker (x ∷ xs) w a = (w x a.0, All-weaker xs w a.1)
 -- ---- by index
 
 -- what holds of each item holds of the one at an index
-pub All-get_or : {X : Type 0} (P : X → Type 0) (xs : List X) (i : ℕ) (d : X) → AllByRecursion P xs → i < length xs → P (get_or xs i d)
-All-get_or P [] i d a l = absurd (omega arith)
-All-get_or P (x ∷ xs) zero d a l = a.0
-All-get_or P (x ∷ xs) (suc i) d a l = All-get_or P xs i d a.1 (omega arith)
-
 pub All-slice_get : {X : Type 0} (P : X → Type 0) (xs : List X) (k : ℕ) (x : X) → AllByRecursion P xs → slice_get xs k ≡ Some x → P x
 All-slice_get P [] k x a e = cc
 All-slice_get P (y ∷ xs) zero x a e = subst P (same_Some y x e) a.0
