@@ -1,5 +1,8 @@
--- The sides of polygons: all of them in a list, their partners, the two at a corner, and the corners round a vertex.
+-- The sides of polygons: all of them in a list, their partners, the two at a corner, the corners round a vertex, and the polygons of a surface as glued polygons.
 pub mod AllSides
 pub mod PartnerSides
 pub mod VertexOrbits
 pub mod CornerRays
+pub mod HalfPlaneTests
+pub mod SidesInTurn
+pub mod GluedSurface

@@ -6,6 +6,7 @@ pub mod Reached
 pub mod Surface
 pub mod Positions
 pub mod NextCorner
+pub mod SurfaceSides
 pub mod Vertices
 pub mod Scaling
 pub mod Shape

@@ -27,7 +27,7 @@ use Rattle.fs_stratum.proofs.CornerCounts.{count_zero}
 use Rattle.fs_gluing.proofs.Sides.AllSides.{in_all_sides}
 use Rattle.fs_gluing.proofs.Sides.VertexOrbits.{next, ahead, has_ahead, has_one_vertex, is_nth_next_ahead, comes_back}
 use Rattle.fs_gluing.proofs.Sides.CornerRays.{rays, next_ray}
-use Rattle.fs_gluing.proofs.Sides.PartnerSides.{vector_or, vector_of}
+use Rattle.fs_gluing.specs.SurfaceSides.{vector_or, vector_of}
 use Rattle.fs_stratum.proofs.RaisedRays.{raised_or, is_ray_raised, raised-here, raised-next, holds_from_rays}
 
 -- ---- vectors, each to the left of the one before

@@ -26,7 +26,8 @@ use Rattle.fs_stratum.specs.declared.cones.Cone.{Cone}
 use Rattle.fs_stratum.specs.VertexList.{IsVertex, AreVertices, AreAscending}
 use Rattle.fs_stratum.proofs.CornerOrder.{less_trans}
 use Rattle.fs_gluing.proofs.Sides.AllSides.{corner, in_all_sides, all_sides_in, all_sides_distinct}
-use Rattle.fs_gluing.proofs.Sides.PartnerSides.{partner, partner_or, pairs}
+use Rattle.fs_gluing.specs.SurfaceSides.{partner, partner_or}
+use Rattle.fs_gluing.proofs.Sides.PartnerSides.{pairs}
 use Rattle.fs_gluing.proofs.Sides.VertexOrbits.{next, is_next_corner, leads_of, one_vertex_of, one_vertex_comm}
 use Rattle.fs_stratum.proofs.VerticesFound.{has_in_row}
 use Rattle.fs_stratum.proofs.HeldCorners.{low_at}

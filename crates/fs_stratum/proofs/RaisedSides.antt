@@ -10,7 +10,8 @@ use Rattle.fs_gluing.specs.Polygons.{HasSide, all_sides}
 use Rattle.fs_gluing.specs.Surface.{GluedPolygons, IsTranslationSurface}
 use Rattle.fs_gluing.specs.Vertices.{HoldsEast, IsCount}
 use Rattle.fs_gluing.proofs.Sides.AllSides.{all_sides_in, all_sides_distinct}
-use Rattle.fs_gluing.proofs.Sides.PartnerSides.{partner, at_partner, pairs}
+use Rattle.fs_gluing.specs.SurfaceSides.{partner}
+use Rattle.fs_gluing.proofs.Sides.PartnerSides.{at_partner, pairs}
 use Rattle.fs_gluing.proofs.Sides.CornerRays.{HasRays, rays}
 use Rattle.fs_stratum.proofs.SectorOfEast.{raised-neg, after-ne-zero}
 use Rattle.fs_stratum.proofs.RaisedRays.{rays_from_holds, holds_from_rays, held-rays}

@@ -13,10 +13,10 @@ use Rattle.fs_gluing.specs.Convex.{CornerSides, corners_of, corners_from, last_s
 use Rattle.fs_gluing.specs.Polygons.{at_side, HasSide}
 use Rattle.fs_gluing.specs.Surface.{GluedPolygons, IsTranslationSurface, IsPolygon, side_vectors}
 use Rattle.fs_gluing.specs.NextCorner.{side_before, side_count, length_or_0}
+use Rattle.fs_gluing.specs.SurfaceSides.{partner_or, vector_or, vector_of}
 use Rattle.fs_gluing.proofs.Polygon.ConvexCorners.{last_side_is}
 use Rattle.fs_gluing.proofs.Polygon.CornersBend.{bends_no_right}
 use Rattle.fs_gluing.proofs.SurfaceCalls.NextCorner.{in_polygon, has_before, before, before_zero, before_suc}
-use Rattle.fs_gluing.proofs.Sides.PartnerSides.{partner_or, vector_or, vector_of}
 use Rattle.fs_gluing.proofs.Sides.VertexOrbits.{next}
 
 -- ---- the corners of a polygon by their numbers

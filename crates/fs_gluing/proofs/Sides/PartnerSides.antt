@@ -1,32 +1,15 @@
 -- The partner and the vector of a side by look-up: partners are pairs of sides with opposite vectors. A library for crates to come.
-use Rattle.std.proofs.Common.{◌≡◌, ◌≢◌, Option, Some, None, List, sym, ap, ◌∙◌, refl, subst}
+use Rattle.std.proofs.Common.{◌≡◌, ◌≢◌, Some, List, sym, ap, ◌∙◌, refl, subst}
 use Rattle.std.specs.Option.{IsSome}
 use Rattle.fs_lists.proofs.Items.{value_of}
 use Rattle.fs_cycles.specs.Cycles.{Pairs}
 use Rattle.fs_plane.specs.declared.corners.Corner.{Corner}
-use Rattle.fs_plane.specs.Vector.{vector_zero, vector_neg, PlaneVector}
+use Rattle.fs_plane.specs.Vector.{vector_neg}
 use Rattle.fs_gluing.specs.declared.surfaces.Side.{Side}
 use Rattle.fs_gluing.specs.Polygons.{at_side, HasSide, all_sides}
+use Rattle.fs_gluing.specs.SurfaceSides.{partner_or, partner, vector_or, vector_of}
 use Rattle.fs_gluing.proofs.SurfaceCalls.NextCorner.{IsGluing}
 use Rattle.fs_gluing.proofs.Sides.AllSides.{in_all_sides, all_sides_in}
-
--- the partner of a side, or c where there is none
-abbrev pub partner_or : Corner → Option Side → Corner
-partner_or c None = c
-partner_or c (Some side) = side.partner
-
--- the side that a side is glued to
-abbrev pub partner : List (List Side) → Corner → Corner
-partner polygons c = partner_or c (at_side polygons c)
-
--- the vector of a side, or (0,0) where there is none
-abbrev pub vector_or : Option Side → PlaneVector
-vector_or None = vector_zero
-vector_or (Some side) = side.vector
-
--- the vector of side c
-abbrev pub vector_of : List (List Side) → Corner → PlaneVector
-vector_of polygons c = vector_or (at_side polygons c)
 
 module _ (polygons : List (List Side)) (glued : IsGluing polygons) where
   -- the partner has the opposite vector, and is glued back

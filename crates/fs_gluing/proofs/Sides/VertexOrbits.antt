@@ -7,11 +7,11 @@ use Rattle.fs_plane.specs.declared.corners.Corner.{Corner}
 use Rattle.fs_gluing.specs.declared.surfaces.Side.{Side}
 use Rattle.fs_gluing.specs.Polygons.{at_side, HasSide, all_sides}
 use Rattle.fs_gluing.specs.NextCorner.{IsNextCorner, side_before}
+use Rattle.fs_gluing.specs.SurfaceSides.{partner_or}
 use Rattle.fs_gluing.specs.Vertices.{IsNthNextCorner, AreOneVertex}
 use Rattle.fs_gluing.proofs.Base.Equality.{same_corner}
 use Rattle.fs_gluing.proofs.SurfaceCalls.NextCorner.{IsGluing, has_before, has_next_corner, next_corner_one_to_one}
 use Rattle.fs_gluing.proofs.Sides.AllSides.{in_all_sides, all_sides_in}
-use Rattle.fs_gluing.proofs.Sides.PartnerSides.{partner_or}
 
 -- the next corner round the vertex
 abbrev pub next : List (List Side) → Corner → Corner

@@ -86,10 +86,12 @@ position_is polygons c at p = subst (λ o. IfSome o (λ polygon. at ≡ corner_p
 pub first_position : (polygons : List (List Side)) (c : Corner) (at : PlaneVector) → IsPosition polygons c at → c.side ≡ 0 → at ≡ vector_zero
 first_position polygons c at p e = p.is ∙ ap (λ j. corner_position (side_vectors p.corner.polygon) j) e
 
-next_in : (polygon : List Side) (j : ℕ) (side : Side) → slice_get polygon j ≡ Some side → vector_add (corner_position (side_vectors polygon) j) side.vector ≡ corner_position (side_vectors polygon) (j + 1)
+-- a side leads from the position of its corner to the next position
+pub next_in : (polygon : List Side) (j : ℕ) (side : Side) → slice_get polygon j ≡ Some side → vector_add (corner_position (side_vectors polygon) j) side.vector ≡ corner_position (side_vectors polygon) (j + 1)
 next_in polygon j side e = total-next vector_zero (side_vectors polygon) j side.vector (slice_get-map (λ (s : Side). s.vector) polygon j ∙ ap (option_map (λ (s : Side). s.vector)) e)
 
-last_in : (straight : Bool) (d : ℕ) (polygon : List Side) (j : ℕ) (side : Side) → IsPolygon straight d (side_vectors polygon) → slice_get polygon j ≡ Some side → j + 1 ≡ length polygon
+-- the last side leads to (0,0)
+pub last_in : (straight : Bool) (d : ℕ) (polygon : List Side) (j : ℕ) (side : Side) → IsPolygon straight d (side_vectors polygon) → slice_get polygon j ≡ Some side → j + 1 ≡ length polygon
     → vector_add (corner_position (side_vectors polygon) j) side.vector ≡ vector_zero
 last_in straight d polygon j side p e last =
     let long : length (side_vectors polygon) ≤ j + 1 = omega (arith, length-map polygon (λ (s : Side). s.vector)) in
