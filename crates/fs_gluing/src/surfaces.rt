@@ -51,7 +51,7 @@ impl Surface {
     ghost use Rattle.fs_gluing.specs.Positions.{all_positions, positions_from};
     ghost use Rattle.fs_gluing.specs.Polygons.{at_side, HasSide};
     ghost use Rattle.fs_gluing.specs.Surface.{IsSurface, side_vectors};
-    ghost use Rattle.fs_gluing.specs.NextCorner.{IsNextCorner, AreOnePoint, side_before};
+    ghost use Rattle.fs_gluing.specs.NextCorner.{IsNextCorner, AreOnePoint, side_before, corner_after};
 
     // The surface of these glued polygons, the corners of which have these positions.
     pub(crate) fn new(
@@ -179,8 +179,8 @@ impl Surface {
         self.partner(self.side_before(c))
     }
 
-    // The side that ends at a corner.
-    fn side_before(&self, c: Corner) -> Corner
+    /// The side that ends at a corner: the one before it in its polygon, counterclockwise.
+    pub fn side_before(&self, c: Corner) -> Corner
         requires { HasSide self.now.polygons c }
         ensures { result ≡ side_before self.now.polygons c }
     {
@@ -188,6 +188,16 @@ impl Surface {
             0 => self.sides(c.polygon) - 1,
             side => side - 1,
         };
+        Corner::new(c.polygon, side)
+    }
+
+    /// The corner at which a side ends: the next one of its polygon, counterclockwise.
+    pub fn corner_after(&self, c: Corner) -> Corner
+        requires { HasSide self.now.polygons c }
+        ensures { result ≡ corner_after self.now.polygons c }
+    {
+        let last = self.sides(c.polygon) - 1;
+        let side = if c.side == last { 0 } else { c.side + 1 };
         Corner::new(c.polygon, side)
     }
 

@@ -33,6 +33,9 @@ pub fn print_site(alloc: Global, site: &Site) -> Result<String, NoMemory>
             place,
         } => format!(in alloc; "area {polygon} {corner} {place}")?,
         Site::AreaScale { place } => format!(in alloc; "areascale {place}")?,
+        Site::Grid { place } => format!(in alloc; "grid {place}")?,
+        Site::Enter { place } => format!(in alloc; "enter {place}")?,
+        Site::Walk { crossings, place } => format!(in alloc; "walk {crossings} {place}")?,
     };
     Ok(text)
 }

@@ -27,6 +27,20 @@ dot_after before d a b = do
 unfoldable pub norm_after : ℕ → ℕ → PlaneVector → Result Quadratic Place
 norm_after before d a = dot_after before d a a
 
+-- a + b
+unfoldable pub vector_sum_after : ℕ → PlaneVector → PlaneVector → Result PlaneVector Place
+vector_sum_after before a b = do
+  x ← checked_sum (before + 1) a.x b.x
+  y ← checked_sum (before + 2) a.y b.y
+  Ok (record { x = x; y = y })
+
+-- a - b
+unfoldable pub vector_difference_after : ℕ → PlaneVector → PlaneVector → Result PlaneVector Place
+vector_difference_after before a b = do
+  x ← checked_difference (before + 1) a.x b.x
+  y ← checked_difference (before + 2) a.y b.y
+  Ok (record { x = x; y = y })
+
 -- whether a number that is computed is above 0
 abbrev pub is_above_zero : ℕ → Result Quadratic Place → Result Bool Place
 is_above_zero d computed = computed >>= (λ x. Ok (is_gt (sign d x)))

@@ -1,6 +1,6 @@
 -- Vectors of the plane, by their exact parts.
-use Rattle.std.specs.Prelude.{ℕ, List, [], ◌∷◌, Bool, true, false}
-use Rattle.std.specs.Ordering.{is_gt, is_lt}
+use Rattle.std.specs.Prelude.{ℕ, List, [], ◌∷◌, Bool, true, false, ◌&&◌}
+use Rattle.std.specs.Ordering.{is_gt, is_lt, int_eq}
 use Rattle.std.specs.declared.cmp.Ordering.{Ordering}
 use Rattle.std.specs.declared.cmp.Ordering.TheVariants.{Less, Equal, Greater}
 use Rattle.fs_ring.specs.Vector as plane
@@ -8,6 +8,10 @@ use Rattle.fs_ring.specs.Vector.{Vector}
 use Rattle.fs_ring.specs.Direction.{InSector, InHalfPlane}
 use Rattle.fs_quadratic.specs.Ring.{Quadratic, quadratic, zero, one, add, neg, sign, IsPositive}
 use Rattle.fs_quadratic.specs.Width.{IsSmall}
+
+-- whether both parts of two numbers are equal
+abbrev pub is_same_number : Quadratic → Quadratic → Bool
+is_same_number a b = int_eq a.p b.p && int_eq a.q b.q
 
 -- a vector with parts p + q·√d, as contracts see a `V2`
 abbrev pub PlaneVector : Type 0
@@ -23,6 +27,10 @@ east = record { x = one; y = zero }
 -- the sum, by parts
 abbrev pub vector_add : PlaneVector → PlaneVector → PlaneVector
 vector_add a b = record { x = add a.x b.x; y = add a.y b.y }
+
+-- whether all parts of two vectors are equal
+abbrev pub is_same_vector : PlaneVector → PlaneVector → Bool
+is_same_vector a b = is_same_number a.x b.x && is_same_number a.y b.y
 
 -- both parts are small
 abbrev pub IsSmallVector : PlaneVector → Type 0

@@ -16,8 +16,8 @@ pub fn cross(field: Field, a: V2, b: V2) -> Result<Elem, Place>
     cross_after(0, field, a, b)
 }
 
-// The cross product as a part of a formula, its places counted on from `before`.
-fn cross_after(before: u32, field: Field, a: V2, b: V2) -> Result<Elem, Place>
+/// The cross product as a part of a formula, its places counted on from `before`.
+pub fn cross_after(before: u32, field: Field, a: V2, b: V2) -> Result<Elem, Place>
     requires { before + 3 < 2 ^ 32 }
     ensures { result ≡ cross_after before field.d a b }
 {
@@ -48,8 +48,8 @@ pub fn dot(field: Field, a: V2, b: V2) -> Result<Elem, Place>
     dot_after(0, field, a, b)
 }
 
-// The dot product as a part of a formula, its places counted on from `before`.
-fn dot_after(before: u32, field: Field, a: V2, b: V2) -> Result<Elem, Place>
+/// The dot product as a part of a formula, its places counted on from `before`.
+pub fn dot_after(before: u32, field: Field, a: V2, b: V2) -> Result<Elem, Place>
     requires { before + 3 < 2 ^ 32 }
     ensures { result ≡ dot_after before field.d a b }
 {
@@ -69,6 +69,15 @@ fn dot_checked(before: u32, field: Field, a: V2, b: V2) -> Result<Elem, Place>
     let left = product_at(before + 1, field, a.x, b.x)?;
     let right = product_at(before + 2, field, a.y, b.y)?;
     sum_at(before + 3, left, right)
+}
+
+/// The squared length as a part of a formula, its places counted on from `before`.
+#[tactic(auto, unfolding(crate::specs::Formulas::norm_after))]
+pub fn norm_after(before: u32, field: Field, a: V2) -> Result<Elem, Place>
+    requires { before + 3 < 2 ^ 32 }
+    ensures { result ≡ norm_after before field.d a }
+{
+    dot_after(before, field, a, a)
 }
 
 /// The squared length, which is the dot product of a with itself, and has its places.

@@ -4,6 +4,7 @@
 mod corners;
 mod formulas;
 mod sites;
+pub mod steps;
 mod vector;
 
 pub use corners::Corner;

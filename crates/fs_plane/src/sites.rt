@@ -1,7 +1,9 @@
 ghost use Rattle.std.specs.Prelude.{◌≡◌};
 ghost use Rattle.fs_plane.specs.declared.sites.Site.{Site};
+ghost use Rattle.fs_plane.specs.declared.sites.Stop.TheVariants.{Overflow, NoMemory};
 
 use crate::corners::Corner;
+use std::alloc::AllocError;
 
 /// Where a computation overflows: a formula, what it was applied to, and the place in it. The
 /// numbers are in the order in which they are printed.
@@ -39,6 +41,22 @@ pub enum Site {
     /// The unscaled area: half of that sum over the denominator is place 1, and this over the
     /// denominator once more place 2.
     AreaScale {
+        place: u32,
+    },
+    /// A part of a vector that a job gives, times the denominator over its own: places 1 and 2 are the parts of x, 3
+    /// and 4 those of y.
+    Grid {
+        place: u32,
+    },
+    /// The beginning of a straight path: places 1 to 9 are the test of the corner's sector, places 10 to 15
+    /// compare the lengths of the vector and of the side along which it runs.
+    Enter {
+        place: u32,
+    },
+    /// A straight path after some crossings: the position of a corner of the polygon, on which side of the path it is, and
+    /// whether the path ends before it or before the side to it.
+    Walk {
+        crossings: u32,
         place: u32,
     },
 }
@@ -110,4 +128,20 @@ pub enum Stop {
     Overflow(Site),
     /// Memory ran out.
     NoMemory,
+}
+
+impl From<Site> for Stop {
+    ghost from_gives = { λ site e. e ≡ Overflow site };
+
+    fn from(site: Site) -> Stop {
+        Stop::Overflow(site)
+    }
+}
+
+impl From<AllocError> for Stop {
+    ghost from_gives = { λ _ e. e ≡ NoMemory };
+
+    fn from(_e: AllocError) -> Stop {
+        Stop::NoMemory
+    }
 }

@@ -2,33 +2,13 @@
 use Rattle.std.proofs.Common.{◌≡◌, ◌≢◌, Bool, true, false, not, ◌&&◌, sym, ap, ◌∙◌, refl, inl, inr}
 use Rattle.std.proofs.Math.IntN.{neg_ℤ, neg_ℤ-neg_ℤ}
 use Rattle.std.specs.Bool.{Decides, ◌==◌}
-use Rattle.std.specs.Ordering.{int_eq}
-use Rattle.std.proofs.lemmas.Bool.Decides.{Decides-int_eq, Decides-eqb, Decides-and, Decides-like, Decides-not}
+use Rattle.std.proofs.lemmas.Bool.Decides.{Decides-eqb, Decides-and, Decides-like, Decides-not}
 use Rattle.std.proofs.lemmas.Bool.{cases_eq}
 use Rattle.fs_lists.specs.Members.{IsDecidable}
 use Rattle.fs_quadratic.specs.Ring.{Quadratic, neg}
 use Rattle.fs_plane.specs.declared.corners.Corner.{Corner}
-use Rattle.fs_plane.specs.Vector.{vector_neg, PlaneVector}
-
--- the test of two numbers: both parts are equal
-abbrev pub is_same_number : Quadratic → Quadratic → Bool
-is_same_number a b = int_eq a.p b.p && int_eq a.q b.q
-
--- the test of two vectors: both coordinates are equal
-abbrev pub is_same_vector : PlaneVector → PlaneVector → Bool
-is_same_vector a b = is_same_number a.x b.x && is_same_number a.y b.y
-
-Decides-is_same_number : (a b : Quadratic) → Decides (is_same_number a b) (a ≡ b)
-Decides-is_same_number a b = Decides-like _
-    (λ e. ap (λ p. record { p = p; q = a.q }) e.0 ∙ ap (λ q. record { p = b.p; q = q }) e.1)
-    (λ e. (ap (λ (x : Quadratic). x.p) e, ap (λ (x : Quadratic). x.q) e))
-    (Decides-and _ _ (Decides-int_eq a.p b.p) (Decides-int_eq a.q b.q))
-
-Decides-is_same_vector : (a b : PlaneVector) → Decides (is_same_vector a b) (a ≡ b)
-Decides-is_same_vector a b = Decides-like _
-    (λ e. ap (λ x. record { x = x; y = a.y }) e.0 ∙ ap (λ y. record { x = b.x; y = y }) e.1)
-    (λ e. (ap (λ (v : PlaneVector). v.x) e, ap (λ (v : PlaneVector). v.y) e))
-    (Decides-and _ _ (Decides-is_same_number a.x b.x) (Decides-is_same_number a.y b.y))
+use Rattle.fs_plane.specs.Vector.{vector_neg, is_same_vector, PlaneVector}
+use Rattle.fs_plane.proofs.EqualVectors.{Decides-is_same_vector}
 
 true_from_not_false : (b : Bool) → not b ≡ false → b ≡ true
 true_from_not_false true e = refl

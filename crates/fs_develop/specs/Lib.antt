@@ -1,0 +1,5 @@
+pub mod Entering
+pub mod Looking
+pub mod Following
+pub mod Spots
+pub mod Walks
