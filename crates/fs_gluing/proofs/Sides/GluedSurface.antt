@@ -1,5 +1,5 @@
 -- The polygons of a translation surface are glued polygons, so that the lemmas on straight paths hold on it. A library for crates to come.
-use Rattle.std.proofs.Common.{◌≡◌, ℕ, List, ◌∙◌, subst}
+use Rattle.std.proofs.Common.{◌≡◌, ℕ, ◌∙◌, subst}
 use Rattle.fs_lists.proofs.All.{All-slice_get}
 use Rattle.fs_ring.specs.OrderedRing.{IsOrderedRing}
 use Rattle.fs_quadratic.specs.Ring.{quadratic, IsPositive}
@@ -7,10 +7,9 @@ use Rattle.fs_quadratic.proofs.Laws.{field_order}
 use Rattle.fs_plane.specs.declared.corners.Corner.{Corner}
 use Rattle.fs_plane.specs.Vector.{PlaneVector, BendsNoRight}
 use Rattle.fs_convex.specs.Turning.{DecidesHalfPlanes}
-use Rattle.fs_paths.specs.SideGluing.{IsSide, AreGluedPolygons}
+use Rattle.fs_paths.specs.SideGluing.{AreGluedPolygons}
 use Rattle.fs_paths.specs.Ends.{PathEnd, IsEnd}
 use Rattle.fs_paths.proofs.EndUnique as paths
-use Rattle.fs_gluing.specs.declared.surfaces.Side.{Side}
 use Rattle.fs_gluing.specs.Polygons.{HasSide}
 use Rattle.fs_gluing.specs.Surface.{GluedPolygons, IsTranslationSurface, IsPolygon, side_vectors}
 use Rattle.fs_gluing.specs.NextCorner.{corner_after, side_count}
@@ -20,13 +19,6 @@ use Rattle.fs_gluing.proofs.Sides.PartnerSides.{has_partner, partner-partner, pa
 use Rattle.fs_gluing.proofs.Sides.CornerRays.{bends_at}
 use Rattle.fs_gluing.proofs.Sides.HalfPlaneTests.{is_ahead, decides_half_planes}
 use Rattle.fs_gluing.proofs.Sides.SidesInTurn.{position_of, returns_after, rises_from_corner, position_after}
-
--- a side that exists is one of the gluing, and the other way round
-pub is_side : {polygons : List (List Side)} {c : Corner} → HasSide polygons c → IsSide (polygon_sides polygons) c
-is_side h = h
-
-pub has_side : {polygons : List (List Side)} {c : Corner} → IsSide (polygon_sides polygons) c → HasSide polygons c
-has_side h = h
 
 module _ (s : GluedPolygons) (surface : IsTranslationSurface s) where
   polygon_in : (c : Corner) (h : HasSide s.polygons c) → IsPolygon s.straight s.d (side_vectors (in_polygon s.polygons c h).polygon)

@@ -1,5 +1,5 @@
 -- The test whether a vector is in the half plane of another, by the signs of their cross and dot products; at (1,0) it is the test of the upper half. A library for crates to come.
-use Rattle.std.proofs.Common.{◌≡◌, ℕ, true, [], ◌∷◌, refl, ap, ◌∙◌}
+use Rattle.std.proofs.Common.{◌≡◌, ℕ, Bool, true, [], ◌∷◌, refl, ap}
 use Rattle.std.specs.declared.cmp.Ordering.{Ordering}
 use Rattle.std.specs.declared.cmp.Ordering.TheVariants.{Less, Equal, Greater}
 use Rattle.fs_ring.specs.Vector as plane
@@ -8,7 +8,7 @@ use Rattle.fs_ring.specs.Direction.{InHalfPlane, at_start, inside}
 use Rattle.fs_ring.proofs.Solver.{expressions as E, ◌≐◌}
 use Rattle.fs_ring.proofs.PlaneSolver.{plane_identity}
 use Rattle.fs_quadratic.specs.Radicand.{IsRadicand}
-use Rattle.fs_quadratic.specs.Ring.{Quadratic, quadratic, IsPositive, sign}
+use Rattle.fs_quadratic.specs.Ring.{quadratic, IsPositive, sign}
 use Rattle.fs_quadratic.proofs.SquareRoot.{radicand_no_square}
 use Rattle.fs_quadratic.proofs.Signs.{sign-positive, sign-zero, positive_of_sign, zero_of_sign}
 use Rattle.fs_quadratic.proofs.Laws.{quadratic_ring}

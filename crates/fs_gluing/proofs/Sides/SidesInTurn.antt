@@ -1,5 +1,5 @@
 -- The sides of a polygon in turn, from any of them: by their numbers, by the positions of their corners, and how often they rise. A library for crates to come.
-use Rattle.std.proofs.Common.{◌≡◌, ◌⊎◌, ℕ, zero, suc, ◌+◌, ◌-◌, ◌<◌, ◌≤◌, Bool, Option, Some, None, List, [], ◌∷◌, length, cond, count_by, unwrap_or, inl, inr, sym, ap, ◌∙◌, refl, subst, arith, add-zero, add-suc}
+use Rattle.std.proofs.Common.{◌≡◌, ◌⊎◌, ℕ, zero, suc, ◌+◌, ◌-◌, ◌<◌, Bool, ◌&&◌, Option, Some, None, List, [], ◌∷◌, length, cond, count_by, unwrap_or, inl, inr, sym, ap, ◌∙◌, refl, arith, add-zero}
 use Rattle.std.proofs.lemmas.Bool.Decides.{nat_tests}
 use Rattle.std.proofs.lemmas.List.{length-map}
 use Rattle.std.proofs.lemmas.List.Sums.{sum_by-cons}
@@ -13,10 +13,10 @@ use Rattle.fs_cycles.proofs.Iterates.{iterate-add, iterate_after}
 use Rattle.fs_ring.specs.Vector.{unit_vector}
 use Rattle.fs_quadratic.specs.Ring.{quadratic}
 use Rattle.fs_plane.specs.declared.corners.Corner.{Corner}
-use Rattle.fs_plane.specs.Vector.{vector_zero, vector_add, vector_neg, is_upper, PlaneVector}
+use Rattle.fs_plane.specs.Vector.{vector_zero, vector_add, vector_neg, PlaneVector}
 use Rattle.fs_convex.specs.Counts.{count_below}
 use Rattle.fs_convex.specs.Turning.{rises}
-use Rattle.fs_convex.proofs.Counts.{count_below-add, count_below-agree}
+use Rattle.fs_convex.proofs.Counts.{count_below-agree}
 use Rattle.fs_convex.proofs.Boundary.{rises-shift}
 use Rattle.fs_paths.specs.SideGluing.{nth_side, sides_from}
 use Rattle.fs_gluing.specs.declared.surfaces.Side.{Side}
@@ -61,6 +61,10 @@ rises-next d b s sides = sum_by-cons (λ corner_sides. cond (is_rise d corner_si
 abbrev rise_at : ℕ → (ℕ → PlaneVector) → ℕ → Bool
 rise_at d t j = is_rise d (record { before = t j; after = t (suc j) })
 
+count_below-first : (f : ℕ → Bool) (k : ℕ) → count_below f (suc k) ≡ one_if (f 0) + count_below (λ j. f (suc j)) k
+count_below-first f zero = omega arith
+count_below-first f (suc k) = let rest = count_below-first f k in omega arith
+
 rises_from : (d : ℕ) (t : ℕ → PlaneVector) (b : PlaneVector) (sides : List PlaneVector) → t 0 ≡ b → ((k : ℕ) (v : PlaneVector) → slice_get sides k ≡ Some v → t (suc k) ≡ v)
     → count_by (is_rise d) (corners_from b sides) ≡ count_below (rise_at d t) (length sides)
 rises_from d t b [] e h = refl
@@ -69,9 +73,7 @@ rises_from d t b (s ∷ sides) e h =
     let here : one_if (is_rise d (record { before = b; after = s })) ≡ one_if (rise_at d t 0) = λ i. one_if (is_rise d (record { before = sym e i; after = sym first i })) in
     let rest = rises_from d (λ j. t (suc j)) s sides first (λ k v f. h (suc k) v f) in
     let next = rises-next d b s sides in
-    let sum : count_below (rise_at d t) (1 + length sides) ≡ count_below (rise_at d t) 1 + count_below (λ j. rise_at d t (1 + j)) (length sides) = count_below-add (rise_at d t) 1 (length sides) in
-    let same : 1 + length sides ≡ suc (length sides) = omega arith in
-    let whole : count_below (rise_at d t) (1 + length sides) ≡ count_below (rise_at d t) (suc (length sides)) = ap (count_below (rise_at d t)) same in
+    let whole : count_below (rise_at d t) (suc (length sides)) ≡ one_if (rise_at d t 0) + count_below (rise_at d (λ j. t (suc j))) (length sides) = count_below-first (rise_at d t) (length sides) in
     omega arith
 
 -- the rises at (1,0) are those of the definition of a polygon
@@ -201,7 +203,7 @@ module _ (polygons : List (List Side)) where
     position_after p =
         let side = item_inside there.polygon c.side there.inside in
         let vector : vector_of polygons c ≡ side.value.vector
-            = ap (λ (o : Option (List Side)). vector_or (option_and_then (λ polygon. slice_get polygon c.side) o)) there.is ∙ ap vector_or side.is in
+        = ap (λ (o : Option (List Side)). vector_or (option_and_then (λ polygon. slice_get polygon c.side) o)) there.is ∙ ap vector_or side.is in
         ap (λ (o : Option (List Side)). corner_position (side_vectors (unwrap_or o [])) (after count c.side)) there.is
         ∙ position_in there.polygon count c.side side.value p count_is side.is
         ∙ (λ i. vector_add (corner_position (side_vectors (unwrap_or (sym there.is i) [])) c.side) (sym vector i))
