@@ -4,3 +4,8 @@ pub mod Entries
 pub mod RunUnique
 pub mod InPolygons
 pub mod PathEnds
+pub mod Walks
+pub mod PathSpots
+pub mod SurfaceReads
+pub mod Followed
+pub mod WordsFollowed

@@ -3,6 +3,7 @@
 ghost use Rattle.std.specs.Prelude.{◌≡◌, ◌≤◌, [], length, Ok};
 ghost use Rattle.fs_plane.specs.declared.corners.Corner.{Corner};
 ghost use Rattle.fs_gluing.specs.Polygons.{HasSide};
+ghost use Rattle.fs_gluing.specs.Surface.{IsSurface};
 ghost use Rattle.fs_gluing.specs.SurfaceSides.{polygon_sides};
 ghost use Rattle.fs_develop.specs.declared.entering.Entry.TheVariants.{Inside};
 ghost use Rattle.fs_develop.specs.Following.{first_entry, first_spot, past_side, FollowsTo};
@@ -42,7 +43,8 @@ fn first_spot(start: Corner) -> Spot
 
 // The first spot after the side of a spot is crossed.
 fn cross(surface: &Surface, spot: Spot) -> Spot
-    requires { HasSide surface.now.polygons spot.side }
+    requires surface { IsSurface surface.now }
+    requires side { HasSide surface.now.polygons spot.side }
     ensures { result ≡ past_side (polygon_sides surface.now.polygons) spot }
 {
     Spot {
@@ -61,6 +63,7 @@ pub fn follow(
     mut word: Sequence<Corner>,
 ) -> Result<Walk, Stop>
     requires start { HasSide surface.now.polygons start }
+    requires surface { IsSurface surface.now }
     requires inside { first_entry surface.now.d (polygon_sides surface.now.polygons) v start ≡ Ok Inside }
     requires steps { steps ≤ 1000000 }
     requires word { word ≡ [] }
@@ -96,6 +99,7 @@ pub fn follow_word(
     v: V2,
 ) -> Result<bool, Site>
     requires start { HasSide surface.now.polygons start }
+    requires surface { IsSurface surface.now }
     requires inside { first_entry surface.now.d (polygon_sides surface.now.polygons) v start ≡ Ok Inside }
     requires short { length word.now ≤ 1000000 }
     ensures { ReturnsCheck (FollowsTo surface.now.d (polygon_sides surface.now.polygons) v (IsNextOf word.now) []
@@ -104,11 +108,11 @@ pub fn follow_word(
     let mut spot = first_spot(start);
     for (n, side) in word.iter().enumerate() {
         let last = depart(surface, v, n as u32, spot)?;
-        if last.departure != Departure::Crosses || last.spot.side != *side {
+        if !last.crosses(*side) {
             return Ok(false);
         }
         spot = cross(surface, last.spot);
     }
     let last = depart(surface, v, word.len() as u32, spot)?;
-    Ok(last.departure == Departure::EndsAtCorner)
+    Ok(last.ends_at_corner())
 }

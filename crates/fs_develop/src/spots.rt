@@ -1,6 +1,7 @@
 // A straight path in one polygon.
 
-ghost use Rattle.std.specs.Prelude.{◌≡◌, ◌≤◌};
+ghost use Rattle.std.specs.Prelude.{◌≡◌, ◌↔◌, IsTrue};
+ghost use Rattle.fs_develop.specs.declared.looking.Departure.{Departure};
 ghost use Rattle.fs_gluing.specs.Surface.{IsSurface};
 ghost use Rattle.fs_gluing.specs.SurfaceSides.{polygon_sides};
 ghost use Rattle.fs_develop.specs.Spots.{IsSpot, Departs};
@@ -23,6 +24,22 @@ pub struct Spot {
 pub struct LastSpot {
     pub spot: Spot,
     pub departure: Departure,
+}
+
+impl LastSpot {
+    // Whether the path crosses this side.
+    pub fn crosses(&self, side: Corner) -> bool
+        ensures { IsTrue result ↔ (self.now.departure ≡ Departure.Crosses) × (self.now.spot.side ≡ side) }
+    {
+        self.departure == Departure::Crosses && self.spot.side == side
+    }
+
+    // Whether the path ends at a corner.
+    pub fn ends_at_corner(&self) -> bool
+        ensures { IsTrue result ↔ (self.now.departure ≡ Departure.EndsAtCorner) }
+    {
+        self.departure == Departure::EndsAtCorner
+    }
 }
 
 // Passes the corners to the right of the path along v, after so many crossings.

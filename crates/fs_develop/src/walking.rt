@@ -5,6 +5,7 @@ ghost use Rattle.fs_plane.specs.declared.corners.Corner.{Corner};
 ghost use Rattle.fs_plane.specs.Vector.{vector_zero};
 ghost use Rattle.fs_paths.specs.Ends.{PathEnd};
 ghost use Rattle.fs_gluing.specs.Polygons.{HasSide};
+ghost use Rattle.fs_gluing.specs.Surface.{IsSurface};
 ghost use Rattle.fs_develop.specs.Walks.{end_of, IsPathEnd, IsSurfaceSegment, IsOnly, WalksTo, FollowsWord, ReturnsWalk, ReturnsCheck};
 
 use crate::entering::Entry;
@@ -61,6 +62,24 @@ pub fn find_walk(
     // The path ends so, and in no other way.
     ensures end { IfOk result (λ walk. IsOnly (IsPathEnd surface.now start v steps) (end_of walk)) }
 {
+    // A look at the field makes the invariant of the surface known here.
+    let _ = surface.field();
+    walk_from(alloc, surface, start, v, steps)
+}
+
+// The walk by its run alone.
+fn walk_from(
+    alloc: Global,
+    surface: &Surface,
+    start: Corner,
+    v: V2,
+    steps: u32,
+) -> Result<Walk, Stop>
+    requires surface { IsSurface surface.now }
+    requires start { HasSide surface.now.polygons start }
+    requires steps { steps ≤ 1000000 }
+    ensures { ReturnsWalk (WalksTo surface.now start v steps) result }
+{
     let word = Sequence::new(alloc);
     match begin(surface, start, v)? {
         Entry::Outside => Ok(Walk::OutOfSector),
@@ -92,6 +111,18 @@ pub fn check_segment(
     // The run along the word ends so, and in no other way.
     ensures run { ReturnsCheck (IsOnly (FollowsWord surface.now start v word.now)) word.now result }
     ensures segment { IfOk result (λ held. IsTrue held ↔ ((y : Corner) × IsSurfaceSegment surface.now start word.now v y)) }
+{
+    // A look at the field makes the invariant of the surface known here.
+    let _ = surface.field();
+    check_from(surface, start, word, v)
+}
+
+// The check by its run alone.
+fn check_from(surface: &Surface, start: Corner, word: &[Corner], v: V2) -> Result<bool, Site>
+    requires surface { IsSurface surface.now }
+    requires start { HasSide surface.now.polygons start }
+    requires short { length word.now ≤ 1000000 }
+    ensures { ReturnsCheck (FollowsWord surface.now start v word.now) word.now result }
 {
     match begin(surface, start, v)? {
         Entry::Outside | Entry::WithinSide | Entry::BeyondSide => Ok(false),

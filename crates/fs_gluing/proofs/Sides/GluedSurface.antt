@@ -1,5 +1,5 @@
 -- The polygons of a translation surface are glued polygons, so that the lemmas on straight paths hold on it. A library for crates to come.
-use Rattle.std.proofs.Common.{◌≡◌, ℕ, ◌∙◌, subst}
+use Rattle.std.proofs.Common.{◌≡◌, ℕ, ◌∙◌, refl, subst}
 use Rattle.fs_lists.proofs.All.{All-slice_get}
 use Rattle.fs_ring.specs.OrderedRing.{IsOrderedRing}
 use Rattle.fs_quadratic.specs.Ring.{quadratic, IsPositive}
@@ -31,9 +31,8 @@ module _ (s : GluedPolygons) (surface : IsTranslationSurface s) where
       subst (λ e. BendsNoRight s.d (vector_of s.polygons e) (vector_of s.polygons (corner_after s.polygons c))) (before-after_corner s.polygons c h)
       (bends_at s surface (corner_after s.polygons c) (has_after s.polygons c h))
 
-  -- the polygons of a surface are glued polygons
-  pub glued_polygons : AreGluedPolygons (quadratic s.d) (IsPositive s.d) (is_ahead s.d) (polygon_sides s.polygons)
-  glued_polygons = record {
+  abbrev laws_of_gluing : AreGluedPolygons (quadratic s.d) (IsPositive s.d) (is_ahead s.d) (polygon_sides s.polygons)
+  laws_of_gluing = record {
     next_side = has_after s.polygons;
     prev_side = has_before s.polygons;
     twin_side = has_partner s.polygons surface.glued;
@@ -50,15 +49,20 @@ module _ (s : GluedPolygons) (surface : IsTranslationSurface s) where
     turning_number = λ c h. rises_from_corner s.polygons c h s.d ∙ (polygon_in c h).turning_number;
   }
 
--- what the lemmas on straight paths ask for: the order of the numbers, a test for half planes, and glued polygons
+  -- the polygons of a surface are glued polygons
+  pub glued_polygons : AreGluedPolygons (quadratic s.d) (IsPositive s.d) (is_ahead s.d) (polygon_sides s.polygons)
+  glued_polygons = laws_of_gluing
+
+-- what the lemmas on straight paths ask for: the order of the numbers, a test for half planes, and glued polygons, with the numbers of their sides
 pub record HasPathLaws (s : GluedPolygons) : Type 0 where
   pub order : IsOrderedRing (quadratic s.d) (IsPositive s.d)
   pub test : DecidesHalfPlanes (quadratic s.d) (IsPositive s.d) (is_ahead s.d)
   pub glued : AreGluedPolygons (quadratic s.d) (IsPositive s.d) (is_ahead s.d) (polygon_sides s.polygons)
+  pub counted : (c : Corner) → glued.sides c ≡ side_count s.polygons c.polygon
 
 -- a surface has them
 pub path_laws : (s : GluedPolygons) → IsTranslationSurface s → HasPathLaws s
-path_laws s surface = record { order = field_order surface.radicand; test = decides_half_planes surface.radicand; glued = glued_polygons s surface }
+path_laws s surface = record { order = field_order surface.radicand; test = decides_half_planes surface.radicand; glued = laws_of_gluing s surface; counted = λ c. refl }
 
 -- any two ends of a path from a corner of a surface are the same
 pub end_unique : (s : GluedPolygons) → IsTranslationSurface s → (c : Corner) → HasSide s.polygons c → (v : PlaneVector) (n : ℕ) (a o : PathEnd Corner)

@@ -69,7 +69,8 @@ has_other : {X : Type 0} (polygons : List (List X)) (c e : Corner) (s : IsInPoly
 has_other polygons c e s same l =
     subst (λ o. IsSome (option_and_then (λ polygon. slice_get polygon e.side) o)) (sym (ap (slice_get polygons) same ∙ s.is)) (some_of_inside s.polygon e.side l)
 
-count_is : {X : Type 0} (polygons : List (List X)) (c : Corner) (s : IsInPolygon polygons c) → side_count polygons c.polygon ≡ length s.polygon
+-- the number of sides of a polygon is its length
+pub count_is : {X : Type 0} (polygons : List (List X)) (c : Corner) (s : IsInPolygon polygons c) → side_count polygons c.polygon ≡ length s.polygon
 count_is polygons c s = ap length_or_0 s.is
 
 -- the side before a corner exists
