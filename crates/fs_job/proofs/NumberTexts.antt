@@ -1,5 +1,5 @@
 -- The texts of numbers and of pairs: each is read in one way.
-use Rattle.std.proofs.Common.{◌≡◌, ℕ, Bool, true, false, List, [], ◌∷◌, Result, Ok, Err, refl, sym, ap, ◌∙◌, subst}
+use Rattle.std.proofs.Common.{◌≡◌, ℕ, Bool, true, false, List, [], ◌∷◌, Result, Ok, Err, refl, ap, ◌∙◌, subst}
 use Rattle.std.specs.List.{AllByRecursion}
 use Rattle.fs_fraction.specs.Fraction.{Fraction}
 use Rattle.fs_fraction.specs.Number.{Reads, number, wide_number, zero_denominator, no_number}
