@@ -17,13 +17,13 @@ command_unique n check c d p q = p ∙ sym q
 command_unique n stratum c d p q = p ∙ sym q
 command_unique n (segment start pair) c d p q = p.2 ∙ (ap (λ (v : Point). commands.Segment n start v) (point_unique pair p.0 q.0 p.1 q.1) ∙ sym q.2)
 
--- the texts of a command are numbers
+-- the texts of a stated command that is a command are numbers
 pub command_is_numbers : (n : ℕ) (stated : StatedCommand) (command : Command) → IsCommand n stated command → AllByRecursion IsNumber (argument_texts stated)
 command_is_numbers n check command p = tt
 command_is_numbers n stratum command p = tt
 command_is_numbers n (segment start pair) command p = point_is_numbers pair p.0 p.1
 
--- a command whose texts are numbers is one
+-- a stated command whose texts are numbers is a command
 pub command_exists : (n : ℕ) (stated : StatedCommand) → AllByRecursion IsNumber (argument_texts stated) → (command : Command) × IsCommand n stated command
 command_exists n check all = (_, refl)
 command_exists n stratum all = (_, refl)

@@ -50,7 +50,7 @@ text_unique : (text : NumberText) (r r' : Result Fraction NumberFault) → Reads
 text_unique text r r' a b = unique_at text.whole text.text r r' a b
 
 -- a text that is read with a fault is no number
-pub number_not_bad : (text : NumberText) (fault : NumberFault) → IsNumber text → ReadsText text (Err fault) → ⊥
+number_not_bad : (text : NumberText) (fault : NumberFault) → IsNumber text → ReadsText text (Err fault) → ⊥
 number_not_bad text fault a b = ok_not_err a.0 fault (text_unique text (Ok a.0) (Err fault) a.1 b)
 
 -- ---- texts in order

@@ -11,14 +11,15 @@ use crate::statements::Stated;
 use fs_gluing::{Fault, Point};
 use fs_quadratic::Elem;
 
-// Whether it is 0,0.
+// Whether a point is 0,0.
 fn is_origin(point: Point) -> bool
     ensures { IsTrue result ↔ IsOrigin point }
 {
     point.x.num() == Elem::ZERO && point.y.num() == Elem::ZERO
 }
 
-// The vector that a pair on this line spells, x first, which isn't 0,0.
+// The vector that a pair on the line with this number spells. Both numbers are read, x first, before
+// it is compared with 0,0.
 fn read_direction(number: u32, pair: &[u8]) -> Result<Point, Fault>
     requires { IsPair pair.now (pair_of pair.now) }
     ensures point { IfOk result (IsPoint (pair_of pair.now)) }
@@ -32,11 +33,11 @@ fn read_direction(number: u32, pair: &[u8]) -> Result<Point, Fault>
     }
 }
 
-// The command that this line states.
+// The command that the line with this number states.
 pub fn read_command(number: u32, stated: Stated<'_>) -> Result<Command, Fault>
     requires { HasPair stated }
     ensures command { IfOk result (IsCommand number (command_of stated.entry)) }
-    ensures sense { IfOk result (λ _. ¬ HasZeroDirection (command_of stated.entry)) }
+    ensures nonzero { IfOk result (λ _. ¬ HasZeroDirection (command_of stated.entry)) }
     ensures fault { IfErr result (IsArgumentFault number (command_of stated.entry)) }
 {
     match stated {

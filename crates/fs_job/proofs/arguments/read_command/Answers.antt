@@ -8,6 +8,6 @@ returns-in_err-read_direction-in-Segment-clause-fault c =
     let p = err_from_is_err_and c.from_residual.result c.from_residual.ensures.1 in
     rw (p.1, p.2, c.in-Segment.is) c.in_err-read_direction-in-Segment.ensures.fault
 
-pub returns-in_ok-read_direction-in-Segment-clause-sense : goal.returns-in_ok-read_direction-in-Segment-clause-sense
-returns-in_ok-read_direction-in-Segment-clause-sense c = rw c.in-Segment.is
+pub returns-in_ok-read_direction-in-Segment-clause-nonzero : goal.returns-in_ok-read_direction-in-Segment-clause-nonzero
+returns-in_ok-read_direction-in-Segment-clause-nonzero c = rw c.in-Segment.is
     (λ zero. not_origin (pair_of c.in-Segment.pair.now) c.in_ok-read_direction-in-Segment.field-0 c.in_ok-read_direction-in-Segment.ensures.point c.in_ok-read_direction-in-Segment.ensures.nonzero zero.0 zero.1 zero.2)

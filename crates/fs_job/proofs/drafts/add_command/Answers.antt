@@ -13,4 +13,4 @@ returns-in-Err c = leads_to_argument_fault c.args.number (kept_draft c.args.draf
 pub returns : goal.returns
 returns c = adds_command c.args.number (kept_draft c.args.draft) (command_of c.args.stated) c.in-Ok.command c.push.new.self
     (not_nil_by_length c.args.draft.shape.polygons (sym c.is_empty.ensures ∙ c.if-is_empty.false)) (let len = c.len.ensures in omega arith)
-    c.in-Ok.ensures.command c.in-Ok.ensures.sense c.in_ok-push-in-Ok.ensures.ok
+    c.in-Ok.ensures.command c.in-Ok.ensures.nonzero c.in_ok-push-in-Ok.ensures.ok
