@@ -23,6 +23,8 @@ pub enum Fault {
     TooMany { line: u32 },
     /// The last line is missing.
     NoEnd,
+    /// The direction on the line is 0,0.
+    ZeroDirection { line: u32 },
     /// A number on the line has a run of more than 18 digits.
     Wide { line: u32 },
     /// The polygon has fewer than three sides.

@@ -9,9 +9,9 @@ use Rattle.fs_gluing.specs.declared.shapes.Point.{Point}
 use Rattle.fs_job.specs.declared.job.Command.{Command}
 use Rattle.fs_job.specs.declared.job.JobStop.{JobStop}
 use Rattle.fs_job.specs.declared.job.JobStop.TheVariants as stops
-use Rattle.fs_job.specs.Statement.{Statement, field_line, polygon_line, glue_line, command_line, end_line, number_texts}
+use Rattle.fs_job.specs.Statement.{StatedCommand, Statement, field_line, polygon_line, glue_line, command_line, end_line, number_texts}
 use Rattle.fs_gluing.specs.Limits.{most_polygons, most_sides}
-use Rattle.fs_job.specs.Draft.{Draft, headed, drafted, ended, to_progress, IsAllowed, most_commands, HasRoom, HasBadNumber, number_fault, ArePoints, StatementLeads, bad_number, accepted}
+use Rattle.fs_job.specs.Draft.{Draft, headed, drafted, ended, to_progress, IsAllowed, most_commands, HasRoom, HasBadNumber, number_fault, HasZeroDirection, IsCommand, ArePoints, StatementLeads, bad_number, accepted}
 use Rattle.fs_job.specs.Stage.{ReturnsOutcome}
 use Rattle.fs_job.specs.Line.{pairs_of}
 use Rattle.fs_job.proofs.Pairs.{length-pairs_of}
@@ -20,23 +20,24 @@ use Rattle.fs_job.proofs.PolygonNumbers.{length-points}
 -- the field begins a draft
 pub adds_field : (n d e : ℕ) (after : Draft) → IsRadicand e → e ≡ d → after ≡ record { d = e; polygons = []; glues = []; commands = [] } → StatementLeads n headed (field_line d) (to_progress (drafted after))
 adds_field n d e after radicand same is =
-    accepted (drafted after) tt tt (subst IsRadicand same radicand) (ap drafted (is ∙ ap (λ (k : ℕ). record { d = k; polygons = []; glues = []; commands = [] }) same)) refl
+    accepted (drafted after) tt tt (λ fault no_sense. no_sense.0 (subst IsRadicand same radicand)) (ap drafted (is ∙ ap (λ (k : ℕ). record { d = k; polygons = []; glues = []; commands = [] }) same)) refl
 
 -- glue lines before the commands are added
 pub adds_glue : (n : ℕ) (draft : Draft) (one two : Corner) (glues : List Glue) → draft.commands ≡ [] → glues ≡ draft.glues ++ (record { line = n; one = one; two = two }) ∷ []
     → StatementLeads n (drafted draft) (glue_line one two) (to_progress (drafted (record { d = draft.d; polygons = draft.polygons; glues = glues; commands = draft.commands })))
 adds_glue n draft one two glues none e =
-    accepted _ none tt tt (ap (λ (gs : List Glue). drafted (record { d = draft.d; polygons = draft.polygons; glues = gs; commands = draft.commands })) e) refl
+    accepted _ none tt (λ fault no_sense. no_sense) (ap (λ (gs : List Glue). drafted (record { d = draft.d; polygons = draft.polygons; glues = gs; commands = draft.commands })) e) refl
 
--- commands after a polygon are added, while there is room
-pub adds_command : (n : ℕ) (draft : Draft) (command : Command) (commands : List Command) → draft.polygons ≢ [] → length draft.commands < most_commands → commands ≡ draft.commands ++ command ∷ []
-    → StatementLeads n (drafted draft) (command_line command) (to_progress (drafted (record { d = draft.d; polygons = draft.polygons; glues = draft.glues; commands = commands })))
-adds_command n draft command commands some room e =
-    accepted _ some room tt (ap (λ (cs : List Command). drafted (record { d = draft.d; polygons = draft.polygons; glues = draft.glues; commands = cs })) e) refl
+-- commands after a polygon are added, while there is room, where no direction is 0,0
+pub adds_command : (n : ℕ) (draft : Draft) (stated : StatedCommand) (command : Command) (commands : List Command) → draft.polygons ≢ [] → length draft.commands < most_commands
+    → IsCommand n stated command → ¬ HasZeroDirection stated → commands ≡ draft.commands ++ command ∷ []
+    → StatementLeads n (drafted draft) (command_line stated) (to_progress (drafted (record { d = draft.d; polygons = draft.polygons; glues = draft.glues; commands = commands })))
+adds_command n draft stated command commands some room is nonzero e =
+    accepted _ some room (λ fault no_sense. nonzero no_sense.0) (command, is, ap (λ (cs : List Command). drafted (record { d = draft.d; polygons = draft.polygons; glues = draft.glues; commands = cs })) e) refl
 
 -- the end is added after a polygon
 pub adds_end : (n : ℕ) (draft : Draft) → draft.polygons ≢ [] → StatementLeads n (drafted draft) end_line (to_progress (ended draft))
-adds_end n draft some = accepted (ended draft) some tt tt refl refl
+adds_end n draft some = accepted (ended draft) some tt (λ fault no_sense. no_sense) refl refl
 
 -- ---- polygons
 
@@ -49,7 +50,7 @@ pub adds_polygon : (n : ℕ) (draft : Draft) (words : List (List ℕ)) (points :
     → ArePoints (pairs_of words) points → polygons ≡ draft.polygons ++ points ∷ []
     → StatementLeads n (drafted draft) (polygon_line (pairs_of words)) (to_progress (drafted (record { d = draft.d; polygons = polygons; glues = draft.glues; commands = draft.commands })))
 adds_polygon n draft words points polygons none room read e =
-    accepted _ none room tt (points, read, ap (λ (ps : List (List Point)). drafted (record { d = draft.d; polygons = ps; glues = draft.glues; commands = draft.commands })) e) refl
+    accepted _ none room (λ fault no_sense. no_sense) (points, read, ap (λ (ps : List (List Point)). drafted (record { d = draft.d; polygons = ps; glues = draft.glues; commands = draft.commands })) e) refl
 
 -- a text that is no number stops the line
 pub leads_to_bad_number : (n : ℕ) (draft : Draft) (s : Statement) (e : JobStop) → IsAllowed (drafted draft) s → HasRoom draft s

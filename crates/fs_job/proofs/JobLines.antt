@@ -89,7 +89,7 @@ polygon_at_end_added : (n : ℕ) (before : Progress) (s : Statement) (after : Pr
 polygon_at_end_added n before (field_line d) after may adds = subst HasPolygonAtEnd (sym adds) tt
 polygon_at_end_added n before (polygon_line pairs) after may adds = subst HasPolygonAtEnd (sym adds.2) tt
 polygon_at_end_added n before (glue_line one two) after may adds = subst HasPolygonAtEnd (sym adds) tt
-polygon_at_end_added n before (command_line command) after may adds = subst HasPolygonAtEnd (sym adds) tt
+polygon_at_end_added n before (command_line stated) after may adds = subst HasPolygonAtEnd (sym adds.2) tt
 polygon_at_end_added n nothing end_line after may adds = absurd may
 polygon_at_end_added n headed end_line after may adds = absurd may
 polygon_at_end_added n (drafted draft) end_line after may adds = subst HasPolygonAtEnd (sym adds) (length-positive draft.polygons may)
@@ -98,7 +98,7 @@ polygon_at_end_added n (ended draft) end_line after may adds = absurd may
 -- it stays so from line to line
 pub polygon_at_end_after : (n : ℕ) (before : Progress) (line : List ℕ) (after : Progress) → HasPolygonAtEnd before → Leads n before line (to_progress after) → HasPolygonAtEnd after
 polygon_at_end_after n before line after ready leads =
-    line_keeps n before line HasPolygonAtEnd tt (λ s next may room radicand adds. polygon_at_end_added n before s next may adds) ready after leads
+    line_keeps n before line HasPolygonAtEnd tt (λ s next may room sense adds. polygon_at_end_added n before s next may adds) ready after leads
 
 -- ---- a job or a first fault, and not both
 

@@ -4,7 +4,7 @@ use Rattle.fs_gluing.specs.declared.faults.Fault.{Fault}
 use Rattle.fs_gluing.specs.declared.faults.Fault.TheVariants as faults
 use Rattle.fs_job.specs.Pieces.{words_of, IsText}
 use Rattle.fs_job.specs.Statement.{Statement, SpellsStatement}
-use Rattle.fs_job.specs.Draft.{Draft, Progress, nothing, headed, drafted, ended, Outcome, to_progress, to_fault, draft_of, IsAllowed, HasRoom, HasRadicand, Adds, StatementLeads, too_many, bad_number, bad_field, accepted}
+use Rattle.fs_job.specs.Draft.{Draft, Progress, nothing, headed, drafted, ended, Outcome, to_progress, to_fault, draft_of, IsAllowed, HasRoom, IsSenseless, Adds, StatementLeads, too_many, bad_number, senseless, accepted}
 use Rattle.fs_job.specs.Draft as statements
 use Rattle.fs_job.specs.Grammar.{header, Leads, not_ascii, skipped, header_line, bad_header, bad_line, statement}
 use Rattle.fs_job.proofs.Choices.{Unique, Choice, choice_unique, Is, is_unique}
@@ -111,7 +111,7 @@ module _ (n : ℕ) (before : Progress) (line : List ℕ) where
 
   -- what each statement that is added keeps, a line keeps
   pub line_keeps : (P : Progress → Type 0) → P headed
-      → ((s : Statement) (after : Progress) → IsAllowed before s → HasRoom (draft_of before) s → HasRadicand s → Adds n (draft_of before) s after → P after)
+      → ((s : Statement) (after : Progress) → IsAllowed before s → HasRoom (draft_of before) s → ((fault : Fault) → ¬ IsSenseless n s fault) → Adds n (draft_of before) s after → P after)
       → P before → (after : Progress) → Leads n before line (to_progress after) → P after
   line_keeps P head each p after (not_ascii not e) = absurd (progress_not_fault after _ e)
   line_keeps P head each p after (skipped text none e) = subst P (sym (to_progress_injective after _ e)) p
@@ -121,9 +121,9 @@ module _ (n : ℕ) (before : Progress) (line : List ℕ) where
   line_keeps P head each p after (statement s text later spells (statements.bad_line none e)) = absurd (progress_not_fault after _ e)
   line_keeps P head each p after (statement s text later spells (too_many may full e)) = absurd (progress_not_fault after _ e)
   line_keeps P head each p after (statement s text later spells (bad_number fault may room first e)) = absurd (progress_not_fault after _ e)
-  line_keeps P head each p after (statement s text later spells (bad_field may room all none e)) = absurd (progress_not_fault after _ e)
-  line_keeps P head each p after (statement s text later spells (accepted next may room radicand adds e)) =
-      subst P (sym (to_progress_injective after next e)) (each s next may room radicand adds)
+  line_keeps P head each p after (statement s text later spells (senseless fault may room all no_sense e)) = absurd (progress_not_fault after _ e)
+  line_keeps P head each p after (statement s text later spells (accepted next may room sense adds e)) =
+      subst P (sym (to_progress_injective after next e)) (each s next may room sense adds)
 
 -- whether a line came that isn't blank
 pub nothing_or_not : (before : Progress) → (before ≡ nothing) ⊎ (before ≢ nothing)

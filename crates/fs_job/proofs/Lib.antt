@@ -4,7 +4,9 @@ pub mod TextLines
 pub mod TextWords
 pub mod Pairs
 pub mod StatementWords
+pub mod NumberTexts
 pub mod PolygonNumbers
+pub mod CommandArguments
 pub mod Additions
 pub mod Choices
 pub mod StatementOutcomes

@@ -49,7 +49,8 @@ not_pairs words old rest word count p e no_pair pairs all =
 
 -- ---- words are pairs in one way only
 
-pair_unique : (word : List ℕ) (p q : Pair) → IsPair word p → IsPair word q → p ≡ q
+-- a word is one pair at most
+pub pair_unique : (word : List ℕ) (p q : Pair) → IsPair word p → IsPair word q → p ≡ q
 pair_unique word p q s t =
     let e = sym s ∙ t in
     let x = heads_equal p.x q.x (p.y ∷ []) (q.y ∷ []) e in

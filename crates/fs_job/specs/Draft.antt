@@ -1,8 +1,9 @@
 -- What the lines of a job say together, where a statement is allowed, and what it leads to: a draft with the statement added, or a fault.
-use Rattle.std.specs.Prelude.{◌≡◌, ◌≢◌, ℕ, ◌+◌, ◌<◌, ◌≤◌, List, [], ◌∷◌, ◌++◌, Ok, Err, length, sum_by}
+use Rattle.std.specs.Prelude.{◌≡◌, ◌≢◌, ℕ, ◌+◌, ◌<◌, ◌≤◌, Bool, true, false, List, [], ◌∷◌, ◌++◌, Result, Ok, Err, length, sum_by, Contains}
 use Rattle.std.specs.List.{AllByRecursion}
 use Rattle.fs_lists.specs.First.{IsFirstWithout}
 use Rattle.fs_quadratic.specs.Radicand.{IsRadicand}
+use Rattle.fs_quadratic.specs.Ring.{zero}
 use Rattle.fs_fraction.specs.Fraction.{Fraction}
 use Rattle.fs_fraction.specs.Number.{Reads}
 use Rattle.fs_fraction.specs.declared.number.NumberFault.{NumberFault}
@@ -13,7 +14,8 @@ use Rattle.fs_gluing.specs.declared.faults.Fault.TheVariants as faults
 use Rattle.fs_gluing.specs.declared.shapes.Glue.{Glue}
 use Rattle.fs_gluing.specs.declared.shapes.Point.{Point}
 use Rattle.fs_job.specs.declared.job.Command.{Command}
-use Rattle.fs_job.specs.Statement.{Pair, Statement, field_line, polygon_line, glue_line, command_line, end_line, number_texts}
+use Rattle.fs_job.specs.declared.job.Command.TheVariants as commands
+use Rattle.fs_job.specs.Statement.{Pair, StatedCommand, check, stratum, segment, NumberText, Statement, field_line, polygon_line, glue_line, command_line, end_line, number_texts}
 
 -- what the lines of a job so far said
 pub record Draft : Type 0 where
@@ -61,40 +63,75 @@ HasRoom draft (field_line d) = Unit {0}
 HasRoom draft (glue_line one two) = Unit {0}
 HasRoom draft end_line = Unit {0}
 
--- the text is a number
-abbrev pub IsNumber : List ℕ → Type 0
-IsNumber text = (x : Fraction) × Reads text (Ok x)
+-- a text is read as a whole number, or has this fault: one with a denominator is a bad number, unless it is too wide
+pub data ReadsWhole (text : List ℕ) : Result Fraction NumberFault → Type 0 where
+  whole_number : (x : Fraction) → Reads text (Ok x) → (¬ Contains text 47) → ReadsWhole text (Ok x)
+  bad_text : (fault : NumberFault) → Reads text (Err fault) → ReadsWhole text (Err fault)
+  with_denominator : (x : Fraction) → Reads text (Ok x) → Contains text 47 → ReadsWhole text (Err number_faults.BadNumber)
+
+-- a text is read as a whole number, or as any
+abbrev pub ReadsEither : Bool → List ℕ → Result Fraction NumberFault → Type 0
+ReadsEither true text result = ReadsWhole text result
+ReadsEither false text result = Reads text result
+
+-- a text is read as a number, which has to be whole where that is asked for
+abbrev pub ReadsText : NumberText → Result Fraction NumberFault → Type 0
+ReadsText text result = ReadsEither text.whole text.text result
+
+-- the text is such a number
+abbrev pub IsNumber : NumberText → Type 0
+IsNumber text = (x : Fraction) × ReadsText text (Ok x)
 
 -- the first of the texts that is no number has this fault
-abbrev pub HasBadNumber : List (List ℕ) → NumberFault → Type 0
-HasBadNumber texts fault = (text : List ℕ) × IsFirstWithout IsNumber texts text × Reads text (Err fault)
+abbrev pub HasBadNumber : List NumberText → NumberFault → Type 0
+HasBadNumber texts fault = (text : NumberText) × IsFirstWithout IsNumber texts text × ReadsText text (Err fault)
 
 -- the fault of a line with a text that is no number
 abbrev pub number_fault : ℕ → NumberFault → Fault
 number_fault n number_faults.BadNumber = faults.BadNumber n
 number_fault n number_faults.Wide = faults.Wide n
 
--- a field line states the d of a field
-abbrev pub HasRadicand : Statement → Type 0
-HasRadicand (field_line d) = IsRadicand d
-HasRadicand (polygon_line pairs) = Unit {0}
-HasRadicand (glue_line one two) = Unit {0}
-HasRadicand (command_line command) = Unit {0}
-HasRadicand end_line = Unit {0}
+-- the point that a pair spells
+abbrev pub IsPoint : Pair → Point → Type 0
+IsPoint pair point = Reads pair.x (Ok point.x) × Reads pair.y (Ok point.y)
+
+-- the point 0,0
+abbrev pub IsOrigin : Point → Type 0
+IsOrigin point = (point.x.num ≡ zero) × (point.y.num ≡ zero)
+
+-- the direction of a command is 0,0
+abbrev pub HasZeroDirection : StatedCommand → Type 0
+HasZeroDirection check = ⊥
+HasZeroDirection stratum = ⊥
+HasZeroDirection (segment start pair) = (point : Point) × IsPoint pair point × IsOrigin point
+
+-- a statement on the line with the number n makes no sense, though its numbers are numbers, which is this fault: the d is that of no field, or a direction is 0,0
+abbrev pub IsSenseless : ℕ → Statement → Fault → Type 0
+IsSenseless n (field_line d) fault = (¬ IsRadicand d) × (fault ≡ faults.BadField)
+IsSenseless n (polygon_line pairs) fault = ⊥
+IsSenseless n (glue_line one two) fault = ⊥
+IsSenseless n (command_line command) fault = HasZeroDirection command × (fault ≡ faults.ZeroDirection n)
+IsSenseless n end_line fault = ⊥
 
 -- the points that the pairs spell
 abbrev pub ArePoints : List Pair → List Point → Type 0
 ArePoints [] [] = Unit {0}
 ArePoints [] (point ∷ points) = ⊥
 ArePoints (pair ∷ pairs) [] = ⊥
-ArePoints (pair ∷ pairs) (point ∷ points) = Reads pair.x (Ok point.x) × Reads pair.y (Ok point.y) × ArePoints pairs points
+ArePoints (pair ∷ pairs) (point ∷ points) = IsPoint pair point × ArePoints pairs points
+
+-- the command that is stated on the line with the number n
+abbrev pub IsCommand : ℕ → StatedCommand → Command → Type 0
+IsCommand n check command = command ≡ commands.Check
+IsCommand n stratum command = command ≡ commands.Stratum
+IsCommand n (segment start pair) command = (point : Point) × IsPoint pair point × (command ≡ commands.Segment n start point)
 
 -- the progress after the line with the number n: the draft with the statement added
 abbrev pub Adds : ℕ → Draft → Statement → Progress → Type 0
 Adds n draft (field_line d) after = after ≡ drafted (record { d = d; polygons = []; glues = []; commands = [] })
 Adds n draft (polygon_line pairs) after = (points : List Point) × ArePoints pairs points × (after ≡ drafted (record draft { polygons = draft.polygons ++ points ∷ [] }))
 Adds n draft (glue_line one two) after = after ≡ drafted (record draft { glues = draft.glues ++ (record { line = n; one = one; two = two }) ∷ [] })
-Adds n draft (command_line command) after = after ≡ drafted (record draft { commands = draft.commands ++ command ∷ [] })
+Adds n draft (command_line stated) after = (command : Command) × IsCommand n stated command × (after ≡ drafted (record draft { commands = draft.commands ++ command ∷ [] }))
 Adds n draft end_line after = after ≡ ended draft
 
 -- what a line leads to: the progress after it, or a fault
@@ -111,9 +148,9 @@ pub data StatementLeads (n : ℕ) (before : Progress) (s : Statement) (outcome :
   -- one of its texts is no number
   bad_number : (fault : NumberFault) → IsAllowed before s → HasRoom (draft_of before) s → HasBadNumber (number_texts s) fault
       → outcome ≡ to_fault (number_fault n fault) → StatementLeads n before s outcome
-  -- its d is the d of no field
-  bad_field : IsAllowed before s → HasRoom (draft_of before) s → AllByRecursion IsNumber (number_texts s) → ¬ HasRadicand s
-      → outcome ≡ to_fault faults.BadField → StatementLeads n before s outcome
+  -- it makes no sense
+  senseless : (fault : Fault) → IsAllowed before s → HasRoom (draft_of before) s → AllByRecursion IsNumber (number_texts s) → IsSenseless n s fault
+      → outcome ≡ to_fault fault → StatementLeads n before s outcome
   -- it is added to the draft
-  accepted : (after : Progress) → IsAllowed before s → HasRoom (draft_of before) s → HasRadicand s → Adds n (draft_of before) s after
+  accepted : (after : Progress) → IsAllowed before s → HasRoom (draft_of before) s → ((fault : Fault) → ¬ IsSenseless n s fault) → Adds n (draft_of before) s after
       → outcome ≡ to_progress after → StatementLeads n before s outcome

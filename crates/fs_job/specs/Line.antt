@@ -1,10 +1,17 @@
 -- What the reader finds on a line. The contract of `flat` doesn't rest on this file.
-use Rattle.std.specs.Prelude.{◌≡◌, ℕ, List, [], ◌∷◌, ◌==◌, Option, None, Some, map, length}
+use Rattle.std.specs.Prelude.{◌≡◌, ℕ, List, [], ◌∷◌, ◌==◌, ◌⊎◌, Option, None, Some, map, length}
+use Rattle.fs_fraction.specs.declared.number.NumberFault.{NumberFault}
+use Rattle.fs_gluing.specs.declared.faults.Fault.{Fault}
+use Rattle.fs_gluing.specs.declared.faults.Fault.TheVariants as faults
+use Rattle.fs_gluing.specs.declared.shapes.Point.{Point}
 use Rattle.fs_plane.specs.declared.corners.Corner.{Corner}
 use Rattle.fs_job.specs.declared.statements.Line.{Line}
 use Rattle.fs_job.specs.declared.statements.Line.TheVariants as lines
+use Rattle.fs_job.specs.declared.statements.Stated.{Stated}
+use Rattle.fs_job.specs.declared.statements.Stated.TheVariants as stated
 use Rattle.fs_job.specs.Pieces.{pieces, words_of}
-use Rattle.fs_job.specs.Statement.{Pair, Statement, field_line, polygon_line, glue_line, command_line, end_line, SpellsNumeral, SpellsCorner, ArePairs}
+use Rattle.fs_job.specs.Statement.{Pair, StatedCommand, check, stratum, segment, Statement, field_line, polygon_line, glue_line, command_line, end_line, SpellsNumeral, SpellsCorner, IsPair, ArePairs, pair_texts}
+use Rattle.fs_job.specs.Draft.{HasBadNumber, number_fault, IsPoint, IsOrigin}
 
 -- what was found has P; where nothing was found, nothing has P
 abbrev pub Finds : {X : Type 0} → (X → Type 0) → Option X → Type 0
@@ -20,6 +27,10 @@ SpellsField words d = (digits : List ℕ) × (words ≡ digits ∷ []) × Spells
 -- the two words after `glue` spell these sides
 abbrev pub SpellsGlue : List (List ℕ) → Corner → Corner → Type 0
 SpellsGlue words one two = (one_text : List ℕ) × (two_text : List ℕ) × (words ≡ one_text ∷ two_text ∷ []) × SpellsCorner one_text one × SpellsCorner two_text two
+
+-- the two words after `segment` spell this corner and this pair
+abbrev pub SpellsSegment : List (List ℕ) → Corner → Pair → Type 0
+SpellsSegment words start pair = (start_text : List ℕ) × (pair_text : List ℕ) × (words ≡ start_text ∷ pair_text ∷ []) × SpellsCorner start_text start × IsPair pair_text pair
 
 -- the first two pieces of a word
 abbrev pub pair_of_pieces : List (List ℕ) → Pair
@@ -37,15 +48,40 @@ pairs_of words = map pair_of words
 
 -- ---- the whole line
 
+-- the command that a line states
+abbrev pub command_of : Stated → StatedCommand
+command_of stated.Check = check
+command_of stated.Stratum = stratum
+command_of (stated.Segment start pair) = segment start (pair_of pair.now)
+
 -- what a line states
 abbrev pub statement_of : Line → Statement
 statement_of (lines.Field d) = field_line d
 statement_of (lines.Polygon pairs) = polygon_line (pairs_of (words_of pairs.words.now))
 statement_of (lines.Glue one two) = glue_line one two
-statement_of (lines.Command command) = command_line command
+statement_of (lines.Command stated) = command_line (command_of stated)
 statement_of lines.End = end_line
 
--- each word after `polygon` is a pair, and they are counted
-abbrev pub IsCounted : Line → Type 0
-IsCounted (lines.Polygon pairs) = ArePairs (words_of pairs.words.now) (pairs_of (words_of pairs.words.now)) × (pairs.count ≡ length (words_of pairs.words.now))
-IsCounted line = Unit {0}
+-- the word of its vector is a pair
+abbrev pub HasPair : Stated → Type 0
+HasPair (stated.Segment start pair) = IsPair pair.now (pair_of pair.now)
+HasPair command = Unit {0}
+
+-- each word of a vector is a pair, and those after `polygon` are counted
+abbrev pub HasPairs : Line → Type 0
+HasPairs (lines.Polygon pairs) = ArePairs (words_of pairs.words.now) (pairs_of (words_of pairs.words.now)) × (pairs.count ≡ length (words_of pairs.words.now))
+HasPairs (lines.Command stated) = HasPair stated
+HasPairs line = Unit {0}
+
+-- ---- the numbers of a command
+
+-- a pair on the line with the number n is no direction, by this fault: a text is no number, or both numbers are 0
+abbrev pub IsDirectionFault : ℕ → Pair → Fault → Type 0
+IsDirectionFault n pair fault = ((bad : NumberFault) × HasBadNumber (pair_texts pair) bad × (fault ≡ number_fault n bad))
+    ⊎ ((point : Point) × IsPoint pair point × IsOrigin point × (fault ≡ faults.ZeroDirection n))
+
+-- this is the fault of the numbers of a command on the line with the number n
+abbrev pub IsArgumentFault : ℕ → StatedCommand → Fault → Type 0
+IsArgumentFault n check fault = ⊥
+IsArgumentFault n stratum fault = ⊥
+IsArgumentFault n (segment start pair) fault = IsDirectionFault n pair fault

@@ -1,10 +1,8 @@
 -- What a line of a job states, its numbers being still texts.
-use Rattle.std.specs.Prelude.{◌≡◌, ℕ, ◌≤◌, List, [], ◌∷◌, ◌==◌, length, Contains, codes}
+use Rattle.std.specs.Prelude.{◌≡◌, ℕ, ◌≤◌, Bool, false, List, [], ◌∷◌, ◌==◌, length, Contains, codes}
 use Rattle.std.specs.List.{flat_map}
 use Rattle.std.specs.Str.Parse.{IsNumeral, digits_value}
 use Rattle.fs_plane.specs.declared.corners.Corner.{Corner}
-use Rattle.fs_job.specs.declared.job.Command.{Command}
-use Rattle.fs_job.specs.declared.job.Command.TheVariants.{Check, Stratum}
 use Rattle.fs_job.specs.Pieces.{pieces}
 
 -- one to `most` decimal digits, and the number that they stand for
@@ -37,22 +35,30 @@ ArePairs [] (pair ∷ pairs) = ⊥
 ArePairs (word ∷ words) [] = ⊥
 ArePairs (word ∷ words) (pair ∷ pairs) = IsPair word pair × ArePairs words pairs
 
+-- a command as its line states it
+pub data StatedCommand : Type 0 where
+  check : StatedCommand
+  stratum : StatedCommand
+  segment : Corner → Pair → StatedCommand
+
 -- what a line states
 pub data Statement : Type 0 where
   field_line : ℕ → Statement
   polygon_line : List Pair → Statement
   glue_line : Corner → Corner → Statement
-  command_line : Command → Statement
+  command_line : StatedCommand → Statement
   end_line : Statement
 
 -- the words by which a command is named
 abbrev pub command_words : List (List ℕ)
-command_words = codes "check" ∷ codes "stratum" ∷ []
+command_words = codes "check" ∷ codes "stratum" ∷ codes "segment" ∷ []
 
 -- the words of each command
-abbrev pub SpellsCommand : List (List ℕ) → Command → Type 0
-SpellsCommand words Check = words ≡ codes "check" ∷ []
-SpellsCommand words Stratum = words ≡ codes "stratum" ∷ []
+abbrev pub SpellsCommand : List (List ℕ) → StatedCommand → Type 0
+SpellsCommand words check = words ≡ codes "check" ∷ []
+SpellsCommand words stratum = words ≡ codes "stratum" ∷ []
+SpellsCommand words (segment start pair) =
+    (start_text : List ℕ) × (pair_text : List ℕ) × (words ≡ codes "segment" ∷ start_text ∷ pair_text ∷ []) × SpellsCorner start_text start × IsPair pair_text pair
 
 -- the words spell this statement
 abbrev pub SpellsStatement : List (List ℕ) → Statement → Type 0
@@ -63,10 +69,25 @@ SpellsStatement words (glue_line one two) =
 SpellsStatement words (command_line command) = (word : List ℕ) × (rest : List (List ℕ)) × (words ≡ word ∷ rest) × Contains command_words word × SpellsCommand words command
 SpellsStatement words end_line = words ≡ codes "end" ∷ []
 
--- the texts of its numbers, from left to right
-abbrev pub number_texts : Statement → List (List ℕ)
+-- the text of a number, and whether it has to be whole: a number without a denominator
+pub record NumberText : Type 0 where
+  pub whole : Bool
+  pub text : List ℕ
+
+-- the texts of a pair, which may have denominators
+abbrev pub pair_texts : Pair → List NumberText
+pair_texts pair = record { whole = false; text = pair.x } ∷ record { whole = false; text = pair.y } ∷ []
+
+-- those of a command, from left to right
+abbrev pub argument_texts : StatedCommand → List NumberText
+argument_texts check = []
+argument_texts stratum = []
+argument_texts (segment start pair) = pair_texts pair
+
+-- the texts of a statement's numbers, from left to right
+abbrev pub number_texts : Statement → List NumberText
 number_texts (field_line d) = []
-number_texts (polygon_line pairs) = flat_map (λ pair. pair.x ∷ pair.y ∷ []) pairs
+number_texts (polygon_line pairs) = flat_map pair_texts pairs
 number_texts (glue_line one two) = []
-number_texts (command_line command) = []
+number_texts (command_line command) = argument_texts command
 number_texts end_line = []

@@ -5,12 +5,13 @@ ghost use Rattle.fs_job.specs.Pieces.{words_of};
 ghost use Rattle.fs_job.specs.Statement.{ArePairs, field_line, polygon_line, glue_line, command_line, end_line};
 ghost use Rattle.fs_job.specs.Draft.{headed, drafted, StatementLeads};
 ghost use Rattle.fs_job.specs.Stage.{kept_draft, ReturnsOutcome};
-ghost use Rattle.fs_job.specs.Line.{pairs_of, statement_of, IsCounted};
+ghost use Rattle.fs_job.specs.Line.{pairs_of, command_of, statement_of, HasPair, HasPairs};
 
+use crate::arguments::read_command;
 use crate::draft_job::DraftJob;
-use crate::job::{Command, JobStop};
+use crate::job::JobStop;
 use crate::points::read_points;
-use crate::statements::{Line, Pairs};
+use crate::statements::{Line, Pairs, Stated};
 use fs_gluing::{Fault, Glue, MOST_POLYGONS, MOST_SIDES};
 use fs_plane::Corner;
 use fs_quadratic::Field;
@@ -93,8 +94,9 @@ fn add_glue(mut draft: DraftJob, number: u32, one: Corner, two: Corner) -> Resul
 }
 
 // A command line.
-fn add_command(mut draft: DraftJob, number: u32, command: Command) -> Result<Stage, JobStop>
-    ensures { ReturnsOutcome (StatementLeads number (drafted (kept_draft draft)) (command_line command)) result }
+fn add_command(mut draft: DraftJob, number: u32, stated: Stated<'_>) -> Result<Stage, JobStop>
+    requires { HasPair stated }
+    ensures { ReturnsOutcome (StatementLeads number (drafted (kept_draft draft)) (command_line (command_of stated.entry))) result }
 {
     if draft.shape.polygons.is_empty() {
         return Err(bad_line(number));
@@ -102,7 +104,10 @@ fn add_command(mut draft: DraftJob, number: u32, command: Command) -> Result<Sta
     if draft.commands.len() >= MOST_COMMANDS {
         return Err(too_many(number));
     }
-    draft.commands.push(command)?;
+    match read_command(number, stated) {
+        Ok(command) => draft.commands.push(command)?,
+        Err(fault) => return Err(JobStop::Fault(fault)),
+    }
     Ok(Stage::Drafted(draft))
 }
 
@@ -123,13 +128,13 @@ pub fn add_line(
     number: u32,
     line: Line<'_>,
 ) -> Result<Stage, JobStop>
-    requires { IsCounted line }
+    requires { HasPairs line }
     ensures { ReturnsOutcome (StatementLeads number (drafted (kept_draft draft)) (statement_of line.entry)) result }
 {
     match line {
         Line::Polygon(pairs) => add_polygon(alloc, draft, number, pairs),
         Line::Glue(one, two) => add_glue(draft, number, one, two),
-        Line::Command(command) => add_command(draft, number, command),
+        Line::Command(stated) => add_command(draft, number, stated),
         Line::End => end(draft, number),
         Line::Field(_) => Err(bad_line(number)),
     }

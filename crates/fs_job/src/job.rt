@@ -3,17 +3,21 @@
 ghost use Rattle.std.specs.Prelude.{◌≡◌};
 ghost use Rattle.fs_job.specs.declared.job.JobStop.TheVariants.{NoMemory};
 
-use fs_gluing::{Fault, Sequence, Shape};
+use fs_gluing::{Fault, Point, Sequence, Shape};
+use fs_plane::Corner;
 use fs_quadratic::Field;
 use std::alloc::AllocError;
 
 /// What a job asks of its surface.
-#[derive(Clone, Copy, Debug, PartialEq, Eq, Hash)]
+#[derive(Drop)]
 pub enum Command {
     /// Count the polygons and the sides.
     Check,
     /// Find the vertices with their cone angles, the stratum, the genus and the area.
     Stratum,
+    /// Follow the straight path from a corner along a vector, which is unscaled and not 0,0. The
+    /// line is that of the job that asks for it, counted from 1.
+    Segment { line: u32, start: Corner, v: Point },
 }
 
 /// How a job describes its surface.

@@ -1,6 +1,7 @@
 // The text of a job: which bytes are which job, and the first fault of all others.
 #![tactic(auto)]
 
+mod arguments;
 mod draft_job;
 mod drafts;
 mod job;

@@ -1,11 +1,10 @@
-// The numbers of a polygon line.
+// Points read from pairs of numbers.
 
-ghost use Rattle.std.specs.Prelude.{◌≡◌, ◌⊎◌, List, Ok, [], ◌∷◌, IfOk, IfErr};
-ghost use Rattle.fs_fraction.specs.Number.{Reads};
+ghost use Rattle.std.specs.Prelude.{◌≡◌, ◌⊎◌, IfOk, IfErr};
 ghost use Rattle.fs_fraction.specs.declared.number.NumberFault.{NumberFault};
 ghost use Rattle.fs_job.specs.Pieces.{words_of};
-ghost use Rattle.fs_job.specs.Statement.{Pair, IsPair, ArePairs, polygon_line, number_texts};
-ghost use Rattle.fs_job.specs.Draft.{ArePoints, HasBadNumber, number_fault};
+ghost use Rattle.fs_job.specs.Statement.{IsPair, ArePairs, pair_texts, polygon_line, number_texts};
+ghost use Rattle.fs_job.specs.Draft.{IsPoint, ArePoints, HasBadNumber, number_fault};
 ghost use Rattle.fs_job.specs.Line.{pair_of, pairs_of};
 
 use crate::job::JobStop;
@@ -17,7 +16,7 @@ use fs_gluing::{Fault, Point, Sequence};
 use std::alloc::Global;
 
 // The fault of a number on a line.
-fn number_fault(number: u32, fault: NumberFault) -> Fault
+pub fn number_fault(number: u32, fault: NumberFault) -> Fault
     ensures { result ≡ number_fault number fault }
 {
     match fault {
@@ -36,10 +35,10 @@ fn split_pair(word: &[u8]) -> (&[u8], &[u8])
 }
 
 // The point that a pair spells, x first.
-fn read_point(word: &[u8]) -> Result<Point, NumberFault>
+pub fn read_point(word: &[u8]) -> Result<Point, NumberFault>
     requires { IsPair word.now (pair_of word.now) }
-    ensures point { IfOk result (λ point. Reads (pair_of word.now).x (Ok point.x) × Reads (pair_of word.now).y (Ok point.y)) }
-    ensures fault { IfErr result (HasBadNumber ((pair_of word.now).x ∷ (pair_of word.now).y ∷ [])) }
+    ensures point { IfOk result (IsPoint (pair_of word.now)) }
+    ensures fault { IfErr result (HasBadNumber (pair_texts (pair_of word.now))) }
 {
     let (x, y) = split_pair(word);
     Ok(Point {

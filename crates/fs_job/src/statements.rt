@@ -1,13 +1,11 @@
 // What a line states.
 
 ghost use Rattle.std.specs.Prelude.{◌≡◌, ◌≤◌, ◌↔◌, ℕ, List, [], ◌∷◌, codes, Contains, IsTrue, MatchOption, length};
-ghost use Rattle.fs_job.specs.declared.job.Command.{Command};
 ghost use Rattle.fs_job.specs.Pieces.{words_of};
-ghost use Rattle.fs_job.specs.Statement.{Pair, Statement, command_words, SpellsCommand, SpellsNumeral, SpellsCorner, ArePairs, SpellsStatement};
+ghost use Rattle.fs_job.specs.Statement.{Pair, StatedCommand, Statement, command_words, SpellsCommand, SpellsNumeral, SpellsCorner, IsPair, ArePairs, SpellsStatement};
 ghost use Rattle.fs_job.specs.Grammar.{header};
-ghost use Rattle.fs_job.specs.Line.{Finds, SpellsField, SpellsGlue, pairs_of, statement_of, IsCounted};
+ghost use Rattle.fs_job.specs.Line.{Finds, SpellsField, SpellsGlue, SpellsSegment, pair_of, pairs_of, command_of, statement_of, HasPair, HasPairs};
 
-use crate::job::Command;
 use crate::pieces::cut_once;
 use crate::words::{next_word, only_word};
 use fs_plane::Corner;
@@ -22,13 +20,21 @@ pub struct Pairs<'a> {
     pub count: usize,
 }
 
+// A command as its line states it: its numbers are still texts. The word of a vector is a pair.
+#[derive(Clone, Copy)]
+pub enum Stated<'a> {
+    Check,
+    Stratum,
+    Segment { start: Corner, pair: &'a [u8] },
+}
+
 // What a line states: its numbers are still texts.
 #[derive(Clone, Copy)]
 pub enum Line<'a> {
     Field(u16),
     Polygon(Pairs<'a>),
     Glue(Corner, Corner),
-    Command(Command),
+    Command(Stated<'a>),
     End,
 }
 
@@ -105,16 +111,35 @@ pub fn is_header(line: &[u8]) -> bool
     }
 }
 
-// The command that a single word names.
-fn bare_command(word: &[u8]) -> Option<Command>
+// The corner and the pair after the first word of a `segment` line.
+fn segment_words(words: &[u8]) -> Option<(Corner, &[u8])>
     ensures { MatchOption result
-        ((command : Command) → ¬ SpellsCommand (word.now ∷ []) command)
-        (λ command. Contains command_words word.now × SpellsCommand (word.now ∷ []) command) }
+        ((start : Corner) → (pair : Pair) → ¬ SpellsSegment (words_of words.now) start pair)
+        (λ parts. SpellsSegment (words_of words.now) parts.0 (pair_of parts.1.now) × IsPair parts.1.now (pair_of parts.1.now)) }
 {
+    let (start, rest) = next_word(words)?;
+    let pair = only_word(rest)?;
+    cut_once(pair, b',')?;
+    Some((corner(start)?, pair))
+}
+
+// The command that a first word names, with the words after it.
+fn stated_command<'a>(word: &[u8], words: &'a [u8]) -> Option<Stated<'a>>
+    ensures { MatchOption result
+        ((command : StatedCommand) → ¬ SpellsCommand (word.now ∷ words_of words.now) command)
+        (λ stated. Contains command_words word.now × SpellsCommand (word.now ∷ words_of words.now) (command_of stated) × HasPair stated) }
+{
+    if word == b"segment".as_slice() {
+        let (start, pair) = segment_words(words)?;
+        return Some(Stated::Segment { start, pair });
+    }
+    if next_word(words).is_some() {
+        return None;
+    }
     if word == b"check".as_slice() {
-        Some(Command::Check)
+        Some(Stated::Check)
     } else if word == b"stratum".as_slice() {
-        Some(Command::Stratum)
+        Some(Stated::Stratum)
     } else {
         None
     }
@@ -124,7 +149,7 @@ fn bare_command(word: &[u8]) -> Option<Command>
 pub fn read_line(line: &[u8]) -> Option<Line<'_>>
     ensures { MatchOption result
         ((s : Statement) → ¬ SpellsStatement (words_of line.now) s)
-        (λ found. SpellsStatement (words_of line.now) (statement_of found) × IsCounted found) }
+        (λ found. SpellsStatement (words_of line.now) (statement_of found) × HasPairs found) }
 {
     let (word, rest) = next_word(line)?;
     if word == b"polygon".as_slice() {
@@ -137,14 +162,8 @@ pub fn read_line(line: &[u8]) -> Option<Line<'_>>
     if word == b"field".as_slice() {
         return Some(Line::Field(field_line(rest)?));
     }
-    if next_word(rest).is_some() {
-        return None;
-    }
-    if let Some(command) = bare_command(word) {
-        return Some(Line::Command(command));
-    }
-    if word == b"end".as_slice() {
+    if word == b"end".as_slice() && next_word(rest).is_none() {
         return Some(Line::End);
     }
-    None
+    Some(Line::Command(stated_command(word, rest)?))
 }

@@ -6,7 +6,7 @@ use Rattle.fs_fraction.specs.Number.{spelling}
 use Rattle.fs_plane.specs.declared.corners.Corner.{Corner}
 use Rattle.fs_plane.specs.declared.sites.Site.{Site}
 use Rattle.fs_gluing.specs.declared.faults.Fault.{Fault}
-use Rattle.fs_gluing.specs.declared.faults.Fault.TheVariants.{NotAscii, BadHeader, BadLine, BadNumber, BadField, TooMany, NoEnd, Wide, FewSides, NotClosed, NotConvex, TurnsTwice, NoSuchSide, GluedTwice, NotOpposite, Unglued, Apart, TooLong}
+use Rattle.fs_gluing.specs.declared.faults.Fault.TheVariants.{NotAscii, BadHeader, BadLine, BadNumber, BadField, TooMany, NoEnd, ZeroDirection, Wide, FewSides, NotClosed, NotConvex, TurnsTwice, NoSuchSide, GluedTwice, NotOpposite, Unglued, Apart, TooLong}
 use Rattle.fs_gluing.specs.Surface.{GluedPolygons}
 use Rattle.fs_stratum.specs.declared.cones.Cone.{Cone}
 use Rattle.fs_stratum.specs.VertexList.{AreVertices, IsGenus}
@@ -33,6 +33,7 @@ fault_words (BadNumber line) = codes "refused 4 BadNumber line " ++ decimal line
 fault_words BadField = codes "refused 5 BadField"
 fault_words (TooMany line) = codes "refused 6 TooMany line " ++ decimal line
 fault_words NoEnd = codes "refused 7 NoEnd"
+fault_words (ZeroDirection line) = codes "refused 8 ZeroDirection line " ++ decimal line
 fault_words (Wide line) = codes "refused 9 Wide line " ++ decimal line
 fault_words (FewSides polygon) = codes "refused 10 FewSides " ++ decimal polygon
 fault_words (NotClosed polygon) = codes "refused 11 NotClosed " ++ decimal polygon

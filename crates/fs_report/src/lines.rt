@@ -30,6 +30,7 @@ fn fault_words(alloc: Global, fault: Fault) -> Result<String, AllocError>
         Fault::BadField => format!(in alloc; "refused 5 BadField"),
         Fault::TooMany { line } => format!(in alloc; "refused 6 TooMany line {line}"),
         Fault::NoEnd => format!(in alloc; "refused 7 NoEnd"),
+        Fault::ZeroDirection { line } => format!(in alloc; "refused 8 ZeroDirection line {line}"),
         Fault::Wide { line } => format!(in alloc; "refused 9 Wide line {line}"),
         Fault::FewSides { polygon } => format!(in alloc; "refused 10 FewSides {polygon}"),
         Fault::NotClosed { polygon } => format!(in alloc; "refused 11 NotClosed {polygon}"),

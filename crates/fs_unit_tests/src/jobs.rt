@@ -706,7 +706,7 @@ fn what_a_job_says(rt: HostRuntime) -> Result<(), Fail> {
         commands,
     } = read_job(alloc, text).ok().ok_or("no job")?;
     assert_eq!(rt; field.d(), 5);
-    assert!(rt; commands.as_slice() == [Command::Check, Command::Check].as_slice());
+    assert!(rt; matches!(commands.as_slice(), [Command::Check, Command::Check]));
     let Form::Polygons(shape) = form;
     assert!(rt; !shape.straight);
     let polygons = shape.polygons.as_slice();

@@ -12,6 +12,8 @@ mod jobs;
 #[cfg(test)]
 mod numbers;
 #[cfg(test)]
+mod segment_jobs;
+#[cfg(test)]
 mod spellings;
 #[cfg(test)]
 mod surfaces;
