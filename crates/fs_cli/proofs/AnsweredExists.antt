@@ -4,21 +4,21 @@ use Rattle.fs_io.specs.Whole.{most_bytes}
 use Rattle.fs_lists.proofs.First.{first_or_all}
 use Rattle.fs_gluing.specs.FirstFault.{PassesOf, tests_of}
 use Rattle.fs_cli.specs.declared.outcome.Status.{Status}
-use Rattle.fs_cli.specs.Answer.{IsAnswered, too_long, no_job, not_built, answered, draft_shape}
+use Rattle.fs_cli.specs.Answer.{AnswersJob, too_long, no_job, not_built, answered, draft_shape}
 use Rattle.fs_cli.proofs.AnsweredUnique.{JobLaw}
 use Rattle.fs_cli.proofs.SurfaceExists.{surface_of_job}
 use Rattle.fs_cli.proofs.CommandTexts.{answers_all_exists}
 
 module _ (law : JobLaw) where
   -- bytes have an answer
-  pub answered_exists : (bytes : List ℕ) → ((output : List ℕ) (result : Status) → ¬ IsAnswered bytes output result) → ⊥
-  answered_exists bytes none =
+  pub answered_exists : (budget : ℕ) (bytes : List ℕ) → ((output : List ℕ) (result : Status) → ¬ AnswersJob budget bytes output result) → ⊥
+  answered_exists budget bytes none =
       by_length (λ few. law.not_neither bytes
       (λ draft reads. first_or_all (PassesOf draft.d (draft_shape draft)) (tests_of (draft_shape draft))
       (λ test first. none _ _ (not_built draft test few reads first refl refl))
       (λ all.
       let s = surface_of_job bytes draft reads all in
-      answers_all_exists s.0 s.1 draft.commands (λ output partial texts. none _ _ (answered draft s.0 partial few reads s.1 s.2 all texts refl))))
+      answers_all_exists s.0 budget s.1 draft.commands (λ output partial texts. none _ _ (answered draft s.0 partial few reads s.1 s.2 all texts refl))))
       (λ fault at. none _ _ (no_job fault few at refl refl)))
     where
       by_length : ¬ (length bytes ≤ most_bytes) → ⊥

@@ -14,7 +14,7 @@ use Rattle.fs_job.specs.Grammar.{IsJob, IsFirstFault}
 use Rattle.fs_report.specs.Text.{fault_line}
 use Rattle.fs_cli.specs.declared.outcome.Status.TheVariants as status
 use Rattle.fs_cli.specs.declared.outcome.Status.{Status}
-use Rattle.fs_cli.specs.Answer.{IsAnswered, too_long, no_job, not_built, answered, AnswersAll, draft_shape, stop_line, stop_status, status_of}
+use Rattle.fs_cli.specs.Answer.{AnswersJob, too_long, no_job, not_built, answered, AnswersAll, draft_shape, stop_line, stop_status, status_of}
 use Rattle.fs_cli.specs.Writing.{IsThisText, HasStatus}
 use Rattle.fs_cli.proofs.CommandTexts.{answers_all_unique}
 
@@ -35,25 +35,25 @@ failed_and_passed : (a b : Draft) (t : Test) → a ≡ b → IsFirstFailure a.d 
 failed_and_passed a b t e f all = first_not_all (PassesOf a.d (draft_shape a)) (tests_of (draft_shape a)) t f (subst Passes (sym e) all)
 
 -- equal surfaces and equal commands
-texts_along : (a b : Draft) (s t : GluedPolygons) (output : List ℕ) (r : Status) → a ≡ b → HasShape a.d (draft_shape a) s → HasShape b.d (draft_shape b) t → Passes b
-    → HasStatus (AnswersAll t b.commands) output r → HasStatus (AnswersAll s a.commands) output r
-texts_along a b s t output r e of_s of_t all texts =
+texts_along : (budget : ℕ) (a b : Draft) (s t : GluedPolygons) (output : List ℕ) (r : Status) → a ≡ b → HasShape a.d (draft_shape a) s → HasShape b.d (draft_shape b) t → Passes b
+    → HasStatus (AnswersAll t budget b.commands) output r → HasStatus (AnswersAll s budget a.commands) output r
+texts_along budget a b s t output r e of_s of_t all texts =
     let same : t ≡ s = surface_unique b.d (draft_shape b) t s of_t (subst (λ (j : Draft). HasShape j.d (draft_shape j) s) e of_s) all in
-    subst (λ (u : GluedPolygons). HasStatus (AnswersAll u a.commands) output r) same
-    (subst (λ (j : Draft). HasStatus (AnswersAll t j.commands) output r) (sym e) texts)
+    subst (λ (u : GluedPolygons). HasStatus (AnswersAll u budget a.commands) output r) same
+    (subst (λ (j : Draft). HasStatus (AnswersAll t budget j.commands) output r) (sym e) texts)
 
 -- ---- what an answer is, for each reason
 
 -- bytes that are too many have this answer only
-pub only_long : (bytes : List ℕ) → most_bytes < length bytes → (output : List ℕ) (r : Status) → IsAnswered bytes output r → IsThisText (fault_line TooLong) status.Refused output r
-only_long bytes many output r (too_long a s e) = (e, s)
-only_long bytes many output r (no_job n a fault s e) = absurd (omega arith)
-only_long bytes many output r (not_built j k a reads first s e) = absurd (omega arith)
-only_long bytes many output r (answered j u p a reads surface shape all texts s) = absurd (omega arith)
+pub only_long : (budget : ℕ) (bytes : List ℕ) → most_bytes < length bytes → (output : List ℕ) (r : Status) → AnswersJob budget bytes output r → IsThisText (fault_line TooLong) status.Refused output r
+only_long budget bytes many output r (too_long a s e) = (e, s)
+only_long budget bytes many output r (no_job n a fault s e) = absurd (omega arith)
+only_long budget bytes many output r (not_built j k a reads first s e) = absurd (omega arith)
+only_long budget bytes many output r (answered j u p a reads surface shape all texts s) = absurd (omega arith)
 
-module _ (law : JobLaw) (bytes : List ℕ) where
+module _ (law : JobLaw) (budget : ℕ) (bytes : List ℕ) where
   -- bytes with a first fault have this answer only
-  pub only_fault : (fault : Fault) → length bytes ≤ most_bytes → IsFirstFault bytes fault → (output : List ℕ) (r : Status) → IsAnswered bytes output r
+  pub only_fault : (fault : Fault) → length bytes ≤ most_bytes → IsFirstFault bytes fault → (output : List ℕ) (r : Status) → AnswersJob budget bytes output r
       → IsThisText (fault_line fault) status.Refused output r
   only_fault n few fault output r (too_long a s e) = absurd (omega arith)
   only_fault n few fault output r (no_job n' a fault' s e) = (e ∙ ap (λ (k : Fault). fault_line k) (law.one_fault bytes n' n fault' fault), s)
@@ -62,7 +62,7 @@ module _ (law : JobLaw) (bytes : List ℕ) where
 
   -- a job whose shape fails a test has this answer only
   pub only_stop : (draft : Draft) (test : Test) → length bytes ≤ most_bytes → IsJob bytes draft → IsFirstFailure draft.d (draft_shape draft) test → (output : List ℕ) (r : Status)
-      → IsAnswered bytes output r → IsThisText (stop_line (stop_of test)) (stop_status (stop_of test)) output r
+      → AnswersJob budget bytes output r → IsThisText (stop_line (stop_of test)) (stop_status (stop_of test)) output r
   only_stop j k few reads first output r (too_long a s e) = absurd (omega arith)
   only_stop j k few reads first output r (no_job n a fault s e) = absurd (law.not_both bytes j n reads fault)
   only_stop j k few reads first output r (not_built j' k' a reads' first' s e) =
@@ -73,19 +73,19 @@ module _ (law : JobLaw) (bytes : List ℕ) where
 
   -- a job whose shape passes all tests has the answers to its commands only
   pub only_texts : (draft : Draft) (s : GluedPolygons) → length bytes ≤ most_bytes → IsJob bytes draft → HasShape draft.d (draft_shape draft) s → Passes draft
-      → (output : List ℕ) (r : Status) → IsAnswered bytes output r → HasStatus (AnswersAll s draft.commands) output r
+      → (output : List ℕ) (r : Status) → AnswersJob budget bytes output r → HasStatus (AnswersAll s budget draft.commands) output r
   only_texts j u few reads shape all output r (too_long a s e) = absurd (omega arith)
   only_texts j u few reads shape all output r (no_job n a fault s e) = absurd (law.not_both bytes j n reads fault)
   only_texts j u few reads shape all output r (not_built j' k a reads' first s e) = absurd (failed_and_passed j' j k (law.one_job bytes j' j reads' reads) first all)
   only_texts j u few reads shape all output r (answered j' u' p a reads' surface shape' all' texts s) =
-      texts_along j j' u u' output r (law.one_job bytes j j' reads reads') shape shape' all' (p, texts, s)
+      texts_along budget j j' u u' output r (law.one_job bytes j j' reads reads') shape shape' all' (p, texts, s)
 
   -- so it is unique
-  pub answered_unique : (o o' : List ℕ) (r r' : Status) → IsAnswered bytes o r → IsAnswered bytes o' r' → (o ≡ o') × (r ≡ r')
-  answered_unique o o' r r' (too_long a s e) b = let just = only_long bytes a o' r' b in (e ∙ sym just.0, s ∙ sym just.1)
+  pub answered_unique : (o o' : List ℕ) (r r' : Status) → AnswersJob budget bytes o r → AnswersJob budget bytes o' r' → (o ≡ o') × (r ≡ r')
+  answered_unique o o' r r' (too_long a s e) b = let just = only_long budget bytes a o' r' b in (e ∙ sym just.0, s ∙ sym just.1)
   answered_unique o o' r r' (no_job n a fault s e) b = let just = only_fault n a fault o' r' b in (e ∙ sym just.0, s ∙ sym just.1)
   answered_unique o o' r r' (not_built j k a reads first s e) b = let just = only_stop j k a reads first o' r' b in (e ∙ sym just.0, s ∙ sym just.1)
   answered_unique o o' r r' (answered j u p a reads surface shape all texts s) b =
       let others = only_texts j u a reads shape all o' r' b in
-      let one = answers_all_unique u surface j.commands o o' p others.0 texts others.1 in
+      let one = answers_all_unique u budget surface j.commands o o' p others.0 texts others.1 in
       (one.0, s ∙ (ap status_of one.1 ∙ sym others.2))

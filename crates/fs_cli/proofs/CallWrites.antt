@@ -1,5 +1,5 @@
 -- What a call wrote, from what the calls in it wrote.
-use Rattle.std.proofs.Common.{◌≡◌, ◌≢◌, ℕ, ◌+◌, ◌<◌, ◌≤◌, ◌⊎◌, Bool, false, List, [], ◌++◌, Option, None, Some, IfSome, Err, length, refl, sym, ap, ◌∙◌, subst, inl, inr, arith, append-nil, length-append}
+use Rattle.std.proofs.Common.{◌≡◌, ◌≢◌, ℕ, ◌+◌, ◌<◌, ◌≤◌, ◌⊎◌, ◌↔◌, Bool, false, List, [], ◌++◌, Option, None, Some, IfSome, Err, length, refl, sym, ap, ◌∙◌, subst, inl, inr, arith, append-nil, length-append}
 use Rattle.std.specs.Io.KnownBytes.{Consumes, Appends, IsAtEnd}
 use Rattle.std.specs.List.{AllByRecursion}
 use Rattle.std.proofs.KnownBytes.{Appends-nil}
@@ -23,8 +23,10 @@ use Rattle.fs_report.specs.Text.{fault_line, Answers}
 use Rattle.fs_report.proofs.AnswersUnique.{answer_unique}
 use Rattle.fs_cli.specs.declared.outcome.Status.{Status}
 use Rattle.fs_cli.specs.declared.outcome.Status.TheVariants as status
-use Rattle.fs_cli.specs.Answer.{IsAnswered, no_job, not_built, answered, BeginsEach, draft_shape, stop_line, stop_status, AnswersAll, status_of}
+use Rattle.fs_cli.specs.Answer.{AnswersJob, IsAnswered, too_long, no_job, not_built, answered, BeginsEach, draft_shape, stop_line, stop_status, AnswersAll, status_of, IsWhole, IsBroken}
+use Rattle.fs_cli.specs.Words.{GiveBudget}
 use Rattle.fs_cli.specs.Writing.{Writes, IsThisText, HasStatus}
+use Rattle.fs_cli.proofs.WordBudgets.{budget_unique}
 use Rattle.fs_cli.proofs.AnsweredUnique.{JobLaw, only_long, only_fault, only_stop, only_texts}
 
 -- the shape of a job without straight corners is that of its draft
@@ -33,29 +35,47 @@ shape_of_draft job unmarked =
     let marked : Bool → Shape = λ mark. record { polygons = (form_shape job.form).polygons; glues = (form_shape job.form).glues; straight = mark } in
     ap marked unmarked
 
+-- where the words give a budget, the status isn't `Usage`
+pub no_usage : {words : List (List ℕ)} {budget : ℕ} (result : Status) → GiveBudget words budget → result ≢ status.Usage → (result ≡ status.Usage) ↔ ((n : ℕ) → ¬ GiveBudget words n)
+no_usage {words} {budget} result given other = ((λ e. absurd (other e)), (λ none. absurd (none budget given)))
+
+-- nor is it that of an answer, whole or broken off
+pub answer_no_usage : (result : Status) → IsWhole result ⊎ IsBroken result → result ≢ status.Usage
+answer_no_usage result kinds e = elim kinds [ inl whole ↦ subst IsWhole e whole | inr broken ↦ subst IsBroken e broken ]
+
 -- each answer begins with the empty text
-pub nothing_begins : (old held : Option (List ℕ)) → IfSome old (λ bytes. (prefix : List ℕ) × BeginsEach (IsAnswered bytes) prefix × Appends held held prefix)
-nothing_begins None held = tt
-nothing_begins (Some bytes) held = ([], λ output result answered. (output, refl), Appends-nil held)
+pub nothing_begins : (words : List (List ℕ)) (old held : Option (List ℕ)) → IfSome old (λ bytes. (prefix : List ℕ) × BeginsEach (IsAnswered words bytes) prefix × Appends held held prefix)
+nothing_begins words None held = tt
+nothing_begins words (Some bytes) held = ([], λ output result answered. (output, refl), Appends-nil held)
 
 -- bytes that are too many
-pub too_long_begins : (old new : Option (List ℕ)) (taken : List ℕ) (held held' : Option (List ℕ)) → Consumes old new taken → length taken ≡ most_bytes + 1
+pub too_long_begins : (words : List (List ℕ)) (old new : Option (List ℕ)) (taken : List ℕ) (held held' : Option (List ℕ)) → Consumes old new taken → length taken ≡ most_bytes + 1
     → (prefix : List ℕ) × BeginsEach (IsThisText (fault_line TooLong) status.Refused) prefix × Appends held held' prefix
-    → IfSome old (λ bytes. (prefix : List ℕ) × BeginsEach (IsAnswered bytes) prefix × Appends held held' prefix)
-too_long_begins None new taken held held' c many wrote = tt
-too_long_begins (Some bytes) None taken held held' c many wrote = absurd c
-too_long_begins (Some bytes) (Some rest) taken held held' c many wrote =
+    → IfSome old (λ bytes. (prefix : List ℕ) × BeginsEach (IsAnswered words bytes) prefix × Appends held held' prefix)
+too_long_begins words None new taken held held' c many wrote = tt
+too_long_begins words (Some bytes) None taken held held' c many wrote = absurd c
+too_long_begins words (Some bytes) (Some rest) taken held held' c many wrote =
     let long : most_bytes < length bytes = omega (arith, ap length c, length-append taken rest) in
-    (wrote.0, λ output r answered. wrote.1 output r (only_long bytes long output r answered), wrote.2)
+    (wrote.0, λ output r answered. wrote.1 output r (only_long answered.budget bytes long output r answered.answer), wrote.2)
+
+-- bytes that are too many are refused
+pub too_long_whole : (words : List (List ℕ)) (budget : ℕ) (old new : Option (List ℕ)) (taken : List ℕ) (held held' : Option (List ℕ)) (result : Status) → GiveBudget words budget → Consumes old new taken
+    → length taken ≡ most_bytes + 1 → (output : List ℕ) × IsThisText (fault_line TooLong) status.Refused output result × Appends held held' output
+    → IfSome old (λ bytes. (output : List ℕ) × IsAnswered words bytes output result × Appends held held' output)
+too_long_whole words budget None new taken held held' result given c many wrote = tt
+too_long_whole words budget (Some bytes) None taken held held' result given c many wrote = absurd c
+too_long_whole words budget (Some bytes) (Some rest) taken held held' result given c many wrote =
+    let long : most_bytes < length bytes = omega (arith, ap length c, length-append taken rest) in
+    (wrote.0, record { budget = budget; given = given; answer = too_long long wrote.1.1 wrote.1.0 }, wrote.2)
 
 -- bytes that are too many are refused only
-pub too_long_only : (old new : Option (List ℕ)) (taken : List ℕ) (result : Status) → Consumes old new taken → length taken ≡ most_bytes + 1 → result ≡ status.Refused
-    → IfSome old (λ bytes. (output : List ℕ) → (other : Status) → IsAnswered bytes output other → other ≡ result)
-too_long_only None new taken result c many is = tt
-too_long_only (Some bytes) None taken result c many is = absurd c
-too_long_only (Some bytes) (Some rest) taken result c many is =
+pub too_long_only : (words : List (List ℕ)) (old new : Option (List ℕ)) (taken : List ℕ) (result : Status) → Consumes old new taken → length taken ≡ most_bytes + 1 → result ≡ status.Refused
+    → IfSome old (λ bytes. (output : List ℕ) → (other : Status) → IsAnswered words bytes output other → other ≡ result)
+too_long_only words None new taken result c many is = tt
+too_long_only words (Some bytes) None taken result c many is = absurd c
+too_long_only words (Some bytes) (Some rest) taken result c many is =
     let long : most_bytes < length bytes = omega (arith, ap length c, length-append taken rest) in
-    λ output other answered. (only_long bytes long output other answered).1 ∙ sym is
+    λ output other answered. (only_long answered.budget bytes long output other answered.answer).1 ∙ sym is
 
 -- what was read to the end is all that was left
 pub all_read : (old new : Option (List ℕ)) (items : List ℕ) → Consumes old new items → IsAtEnd new → (P : List ℕ → Type 0) → P items → IfSome old P
@@ -87,25 +107,25 @@ module _ (result : Status) (held held' : Option (List ℕ)) (faults faults' : �
   writes_along text text' meant e = subst (λ (t : List ℕ). Writes (IsThisText t meant) result held held' faults faults') e
 
   -- equal commands
-  pub writes_commands : (s : GluedPolygons) (commands commands' : List Command) → commands ≡ commands'
-      → Writes (HasStatus (AnswersAll s commands)) result held held' faults faults' → Writes (HasStatus (AnswersAll s commands')) result held held' faults faults'
-  writes_commands s commands commands' e = subst (λ (cs : List Command). Writes (HasStatus (AnswersAll s cs)) result held held' faults faults') e
+  pub writes_commands : (s : GluedPolygons) (budget : ℕ) (commands commands' : List Command) → commands ≡ commands'
+      → Writes (HasStatus (AnswersAll s budget commands)) result held held' faults faults' → Writes (HasStatus (AnswersAll s budget commands')) result held held' faults faults'
+  writes_commands s budget commands commands' e = subst (λ (cs : List Command). Writes (HasStatus (AnswersAll s budget cs)) result held held' faults faults') e
 
   -- the text of a command
-  pub writes_command : (s : GluedPolygons) (command : Command) (text : List ℕ) (partial : Bool) (meant : Status) → IsSurface s → Answers s command text partial → meant ≡ status_of partial
-      → Writes (IsThisText text meant) result held held' faults faults' → Writes (HasStatus (Answers s command)) result held held' faults faults'
-  writes_command s command text partial meant surface answers is =
-      writes_just (HasStatus (Answers s command)) text meant (partial, answers, is)
+  pub writes_command : (s : GluedPolygons) (budget : ℕ) (command : Command) (text : List ℕ) (partial : Bool) (meant : Status) → IsSurface s → Answers s budget command text partial → meant ≡ status_of partial
+      → Writes (IsThisText text meant) result held held' faults faults' → Writes (HasStatus (Answers s budget command)) result held held' faults faults'
+  writes_command s budget command text partial meant surface answers is =
+      writes_just (HasStatus (Answers s budget command)) text meant (partial, answers, is)
       (λ output r means.
-      let one = answer_unique s command output text means.0 partial surface.surface means.1 answers in
+      let one = answer_unique s budget command output text means.0 partial surface.surface means.1 answers in
       (one.0, means.2 ∙ (ap status_of one.1 ∙ sym is)))
 
-  module _ (law : JobLaw) (bytes : List ℕ) (few : length bytes ≤ most_bytes) where
+  module _ (law : JobLaw) (budget : ℕ) (bytes : List ℕ) (few : length bytes ≤ most_bytes) where
     -- bytes that are no job
     pub writes_fault : (e : JobStop) (fault : Fault) → e ≡ job_stops.Fault fault → (e ≡ job_stops.NoMemory) ⊎ ((f : Fault) × (e ≡ job_stops.Fault f) × IsFirstFault bytes f)
-        → Writes (IsThisText (fault_line fault) status.Refused) result held held' faults faults' → Writes (IsAnswered bytes) result held held' faults faults'
+        → Writes (IsThisText (fault_line fault) status.Refused) result held held' faults faults' → Writes (AnswersJob budget bytes) result held held' faults faults'
     writes_fault e fault is told =
-        writes_just (IsAnswered bytes) (fault_line fault) status.Refused (no_job fault few first refl refl) (only_fault law bytes fault few first)
+        writes_just (AnswersJob budget bytes) (fault_line fault) status.Refused (no_job fault few first refl refl) (only_fault law budget bytes fault few first)
       where
         other_stops : job_stops.Fault fault ≡ job_stops.NoMemory → ⊥
         other_stops f = cc
@@ -121,24 +141,31 @@ module _ (result : Status) (held held' : Option (List ℕ)) (faults faults' : �
 
     -- a job whose shape isn't built
     pub writes_stop : (draft : Draft) (e stop : BuildStop) → e ≡ stop → IsJob bytes draft → IsBuildResult draft.d (draft_shape draft) (Err e) → stop ≢ stops.NoMemory
-        → Writes (IsThisText (stop_line stop) (stop_status stop)) result held held' faults faults' → Writes (IsAnswered bytes) result held held' faults faults'
+        → Writes (IsThisText (stop_line stop) (stop_status stop)) result held held' faults faults' → Writes (AnswersJob budget bytes) result held held' faults faults'
     writes_stop draft e stop is reads judged some w = elim judged [
       | inl none ↦ absurd (some (sym is ∙ none))
       | inr failed ↦ stopped failed.0 failed.1 (sym is ∙ failed.2)
     ]
       where
-        stopped : (test : Test) → IsFirstFailure draft.d (draft_shape draft) test → stop ≡ stop_of test → Writes (IsAnswered bytes) result held held' faults faults'
+        stopped : (test : Test) → IsFirstFailure draft.d (draft_shape draft) test → stop ≡ stop_of test → Writes (AnswersJob budget bytes) result held held' faults faults'
         stopped test first same =
-            writes_just (IsAnswered bytes) (stop_line stop) (stop_status stop) (not_built draft test few reads first (ap stop_status same) (ap stop_line same))
+            writes_just (AnswersJob budget bytes) (stop_line stop) (stop_status stop) (not_built draft test few reads first (ap stop_status same) (ap stop_line same))
             (λ output r means.
-            let just = only_stop law bytes draft test few reads first output r means in
+            let just = only_stop law budget bytes draft test few reads first output r means in
             (just.0 ∙ sym (ap stop_line same), just.1 ∙ sym (ap stop_status same))) w
 
     -- a job whose surface is built
     pub writes_texts : (draft : Draft) (s : GluedPolygons) → IsJob bytes draft → IsSurface s → HasShape draft.d (draft_shape draft) s
         → AllByRecursion (PassesOf draft.d (draft_shape draft)) (tests_of (draft_shape draft))
-        → Writes (HasStatus (AnswersAll s draft.commands)) result held held' faults faults' → Writes (IsAnswered bytes) result held held' faults faults'
+        → Writes (HasStatus (AnswersAll s budget draft.commands)) result held held' faults faults' → Writes (AnswersJob budget bytes) result held held' faults faults'
     writes_texts draft s reads surface shape all =
-        writes_meant (HasStatus (AnswersAll s draft.commands)) (IsAnswered bytes)
+        writes_meant (HasStatus (AnswersAll s budget draft.commands)) (AnswersJob budget bytes)
         (λ output r means. answered draft s means.0 few reads surface shape all means.1 means.2)
-        (only_texts law bytes draft s few reads shape all)
+        (only_texts law budget bytes draft s few reads shape all)
+
+  -- the answer to words that give the budget
+  pub writes_by_words : (words : List (List ℕ)) (budget : ℕ) (bytes : List ℕ) → GiveBudget words budget → Writes (AnswersJob budget bytes) result held held' faults faults'
+      → Writes (IsAnswered words bytes) result held held' faults faults'
+  writes_by_words words budget bytes given =
+      writes_meant (AnswersJob budget bytes) (IsAnswered words bytes) (λ output r answer. record { budget = budget; given = given; answer = answer })
+      (λ output r answered. subst (λ (n : ℕ). AnswersJob n bytes output r) (budget_unique words answered.budget budget answered.given given) answered.answer)

@@ -50,30 +50,30 @@ pub partial_no_fault : {result : Status} → result ≡ status.Partial → resul
 partial_no_fault partial e = cc
 
 -- the first i commands were answered, with this status so far
-abbrev pub AreAnswered : GluedPolygons → List Command → ℕ → Status → Option (List ℕ) → Option (List ℕ) → Type 0
-AreAnswered s commands i so_far held held' = (text : List ℕ) × HasStatus (AnswersAll s (take i commands)) text so_far × Appends held held' text
+abbrev pub AreAnswered : GluedPolygons → ℕ → List Command → ℕ → Status → Option (List ℕ) → Option (List ℕ) → Type 0
+AreAnswered s budget commands i so_far held held' = (text : List ℕ) × HasStatus (AnswersAll s budget (take i commands)) text so_far × Appends held held' text
 
-module _ (s : GluedPolygons) (surface : IsSurface s) where
+module _ (s : GluedPolygons) (budget : ℕ) (surface : IsSurface s) where
   -- ---- commands have one text, and one way to be partial
 
   -- commands have one text at most, partial or whole
-  pub answers_all_unique : (commands : List Command) (m n : List ℕ) (p q : Bool) → AnswersAll s commands m p → AnswersAll s commands n q → (m ≡ n) × (p ≡ q)
+  pub answers_all_unique : (commands : List Command) (m n : List ℕ) (p q : Bool) → AnswersAll s budget commands m p → AnswersAll s budget commands n q → (m ≡ n) × (p ≡ q)
   answers_all_unique [] m n p q a b = (a.0 ∙ sym b.0, a.1 ∙ sym b.1)
   answers_all_unique (command ∷ commands) m n p q a b =
-      let one = answer_unique s command a.prefix b.prefix a.prefix_partial b.prefix_partial surface.surface a.one b.one in
+      let one = answer_unique s budget command a.prefix b.prefix a.prefix_partial b.prefix_partial surface.surface a.one b.one in
       let other = answers_all_unique commands a.rest b.rest a.rest_partial b.rest_partial a.other b.other in
       (cc, cc)
 
   -- commands have a text
-  pub answers_all_exists : (commands : List Command) → ((output : List ℕ) (partial : Bool) → ¬ AnswersAll s commands output partial) → ⊥
+  pub answers_all_exists : (commands : List Command) → ((output : List ℕ) (partial : Bool) → ¬ AnswersAll s budget commands output partial) → ⊥
   answers_all_exists [] none = none [] false (refl, refl)
   answers_all_exists (command ∷ commands) none =
-      answer_exists s command surface.surface (λ m p one. answers_all_exists commands (λ n q other. none (m ++ n) (p || q)
+      answer_exists s budget command surface.surface (λ m p one. answers_all_exists commands (λ n q other. none (m ++ n) (p || q)
       (record { prefix = m; rest = n; prefix_partial = p; rest_partial = q; one = one; other = other; whole = refl; kind = refl })))
 
   -- one command more, after the others
-  answers_all_append : (commands : List Command) (command : Command) (m n : List ℕ) (p q : Bool) → AnswersAll s commands m p → Answers s command n q
-      → AnswersAll s (commands ++ command ∷ []) (m ++ n) (p || q)
+  answers_all_append : (commands : List Command) (command : Command) (m n : List ℕ) (p q : Bool) → AnswersAll s budget commands m p → Answers s budget command n q
+      → AnswersAll s budget (commands ++ command ∷ []) (m ++ n) (p || q)
   answers_all_append [] command m n p q a b = record {
     prefix = n;
     rest = [];
@@ -96,8 +96,8 @@ module _ (s : GluedPolygons) (surface : IsSurface s) where
   }
 
   -- the texts of some commands, and what begins the text of the next one, begin the texts of all
-  module _ (command : Command) (later : List Command) (prefix : List ℕ) (begins : BeginsEach (HasStatus (Answers s command)) prefix) where
-    begin_all : (commands : List Command) (m output : List ℕ) (p q : Bool) → AnswersAll s commands m p → AnswersAll s (commands ++ command ∷ later) output q
+  module _ (command : Command) (later : List Command) (prefix : List ℕ) (begins : BeginsEach (HasStatus (Answers s budget command)) prefix) where
+    begin_all : (commands : List Command) (m output : List ℕ) (p q : Bool) → AnswersAll s budget commands m p → AnswersAll s budget (commands ++ command ∷ later) output q
         → (rest : List ℕ) × (output ≡ (m ++ prefix) ++ rest)
     begin_all [] m output p q a b =
         let this = begins b.prefix (status_of b.prefix_partial) (b.prefix_partial, b.one, refl) in (
@@ -108,7 +108,7 @@ module _ (s : GluedPolygons) (surface : IsSurface s) where
               ∙ ap (λ (text : List ℕ). (text ++ prefix) ++ (this.0 ++ b.rest)) (sym a.0))),
         )
     begin_all (first ∷ commands) m output p q a b =
-        let same = answer_unique s first b.prefix a.prefix b.prefix_partial a.prefix_partial surface.surface b.one a.one in
+        let same = answer_unique s budget first b.prefix a.prefix b.prefix_partial a.prefix_partial surface.surface b.one a.one in
         let more = begin_all commands a.rest b.rest a.rest_partial b.rest_partial a.other b.other in (
           more.0,
           b.whole
@@ -122,16 +122,16 @@ module _ (s : GluedPolygons) (surface : IsSurface s) where
 
   module _ (commands : List Command) where
     module _ (i : ℕ) (d : Command) (h : i < length commands) (held before after : Option (List ℕ)) (result so_far : Status) (faults' faults'' : ℕ)
-        (w : Writes (HasStatus (Answers s (get_or commands i d))) result before after faults' faults'')
-        (written : AreAnswered s commands i so_far held before) where
+        (w : Writes (HasStatus (Answers s budget (get_or commands i d))) result before after faults' faults'')
+        (written : AreAnswered s budget commands i so_far held before) where
       abbrev this : Command
       this = get_or commands i d
 
-      all_more : (m n : List ℕ) (p q : Bool) → AnswersAll s (take i commands) m p → Answers s this n q → AnswersAll s (take (i + 1) commands) (m ++ n) (p || q)
-      all_more m n p q a b = subst (λ (prefix : List Command). AnswersAll s prefix (m ++ n) (p || q)) (sym (take_more commands i d h)) (answers_all_append (take i commands) this m n p q a b)
+      all_more : (m n : List ℕ) (p q : Bool) → AnswersAll s budget (take i commands) m p → Answers s budget this n q → AnswersAll s budget (take (i + 1) commands) (m ++ n) (p || q)
+      all_more m n p q a b = subst (λ (prefix : List Command). AnswersAll s budget prefix (m ++ n) (p || q)) (sym (take_more commands i d h)) (answers_all_append (take i commands) this m n p q a b)
 
       -- its text was written whole
-      more_written : (next : Status) → IsWhole result → ((p q : Bool) → so_far ≡ status_of p → result ≡ status_of q → next ≡ status_of (p || q)) → AreAnswered s commands (i + 1) next held after
+      more_written : (next : Status) → IsWhole result → ((p q : Bool) → so_far ≡ status_of p → result ≡ status_of q → next ≡ status_of (p || q)) → AreAnswered s budget commands (i + 1) next held after
       more_written next whole joined =
           let wrote = w.whole whole in
           let p = written.1.0 in
@@ -142,25 +142,25 @@ module _ (s : GluedPolygons) (surface : IsSurface s) where
           )
 
       -- the next command was answered whole
-      pub done_more : (next : Status) → result ≡ status.Done → next ≡ so_far → AreAnswered s commands (i + 1) next held after
+      pub done_more : (next : Status) → result ≡ status.Done → next ≡ so_far → AreAnswered s budget commands (i + 1) next held after
       done_more next done same = more_written next (subst IsWhole (sym done) tt) (λ p q before this. same ∙ (before ∙ sym (still_done p q (sym this ∙ done))))
 
       -- the next command was answered in part
-      pub partial_more : (next : Status) → result ≡ status.Partial → next ≡ status.Partial → AreAnswered s commands (i + 1) next held after
+      pub partial_more : (next : Status) → result ≡ status.Partial → next ≡ status.Partial → AreAnswered s budget commands (i + 1) next held after
       partial_more next partial is = more_written next (subst IsWhole (sym partial) tt) (λ p q before this. is ∙ sym (now_partial p q (sym this ∙ partial)))
 
       -- it broke off at this command
       parts : commands ≡ take i commands ++ this ∷ drop (i + 1) commands
       parts = sym (take-append-drop i commands) ∙ ap (λ (rest : List Command). take i commands ++ rest) (drop_more commands i d h)
 
-      begun : (prefix : List ℕ) → BeginsEach (HasStatus (Answers s this)) prefix → BeginsEach (HasStatus (AnswersAll s commands)) (written.0 ++ prefix)
+      begun : (prefix : List ℕ) → BeginsEach (HasStatus (Answers s budget this)) prefix → BeginsEach (HasStatus (AnswersAll s budget commands)) (written.0 ++ prefix)
       begun prefix begins = λ output _ means.
           begin_all this (drop (i + 1) commands) prefix begins (take i commands) written.0 output written.1.0 means.0 written.1.1
-          (subst (λ (all : List Command). AnswersAll s all output means.0) parts means.1)
+          (subst (λ (all : List Command). AnswersAll s budget all output means.0) parts means.1)
 
       -- writing broke off at the next command
       pub broken_off : (faults : ℕ) → faults' ≡ faults → result ≢ status.Done → result ≢ status.Partial
-          → Writes (HasStatus (AnswersAll s commands)) result held after faults faults''
+          → Writes (HasStatus (AnswersAll s budget commands)) result held after faults faults''
       broken_off faults same not_done not_partial =
           let not_whole : ¬ IsWhole result = λ whole. let wrote = w.whole whole in neither wrote.1.0 result wrote.1.2 not_done not_partial in
           record {
@@ -175,14 +175,14 @@ module _ (s : GluedPolygons) (surface : IsSurface s) where
           }
 
     -- the last one was answered
-    pub all_written : (i : ℕ) (held held' : Option (List ℕ)) (result : Status) (faults faults' : ℕ) → length commands ≤ i → AreAnswered s commands i result held held' → faults' ≡ faults
-        → Writes (HasStatus (AnswersAll s commands)) result held held' faults faults'
+    pub all_written : (i : ℕ) (held held' : Option (List ℕ)) (result : Status) (faults faults' : ℕ) → length commands ≤ i → AreAnswered s budget commands i result held held' → faults' ≡ faults
+        → Writes (HasStatus (AnswersAll s budget commands)) result held held' faults faults'
     all_written i held held' result faults faults' h written same =
         let p = written.1.0 in
         let is = written.1.2 in
         record {
           kinds = inl (subst IsWhole (sym is) (is_whole p));
-          whole = λ _. (written.0, (p, subst (λ (all : List Command). AnswersAll s all written.0 p) (take_all i commands h) written.1.1, is), written.2);
+          whole = λ _. (written.0, (p, subst (λ (all : List Command). AnswersAll s budget all written.0 p) (take_all i commands h) written.1.1, is), written.2);
           broken = λ broken. absurd (not_broken p (subst IsBroken is broken));
           write_fault = λ e. absurd (not_write_fault p (sym is ∙ e));
           kept = λ _. same;

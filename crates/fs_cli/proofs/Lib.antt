@@ -1,3 +1,4 @@
+pub mod WordBudgets
 pub mod CommandTexts
 pub mod AnsweredUnique
 pub mod CallWrites

@@ -1,4 +1,4 @@
--- The whole answer to the bytes of a job: what is written, and the status.
+-- The whole answer to words and the bytes of a job: what is written, and the status.
 use Rattle.std.specs.Prelude.{◌≡◌, ℕ, ◌<◌, ◌≤◌, Bool, false, ◌||◌, if◌then◌else◌, List, [], ◌∷◌, ◌++◌, length}
 use Rattle.std.specs.List.{AllByRecursion}
 use Rattle.fs_io.specs.Whole.{most_bytes}
@@ -14,6 +14,7 @@ use Rattle.fs_job.specs.declared.job.Command.{Command}
 use Rattle.fs_job.specs.Draft.{Draft}
 use Rattle.fs_job.specs.Grammar.{IsJob, IsFirstFault}
 use Rattle.fs_report.specs.Text.{fault_line, build_line, Answers}
+use Rattle.fs_cli.specs.Words.{GiveBudget}
 use Rattle.fs_cli.specs.declared.outcome.Status.{Status}
 use Rattle.fs_cli.specs.declared.outcome.Status.TheVariants as status
 
@@ -48,24 +49,30 @@ pub record AreJoined (One Other : List ℕ → Bool → Type 0) (output : List �
   pub whole : output ≡ prefix ++ rest
   pub kind : partial ≡ prefix_partial || rest_partial
 
--- the answers to commands in order, one after the other
-abbrev pub AnswersAll : GluedPolygons → List Command → List ℕ → Bool → Type 0
-AnswersAll s [] output partial = (output ≡ []) × (partial ≡ false)
-AnswersAll s (command ∷ commands) output partial = AreJoined (Answers s command) (AnswersAll s commands) output partial
+-- the answers to commands in order, one after the other, each within the budget
+abbrev pub AnswersAll : GluedPolygons → ℕ → List Command → List ℕ → Bool → Type 0
+AnswersAll s budget [] output partial = (output ≡ []) × (partial ≡ false)
+AnswersAll s budget (command ∷ commands) output partial = AreJoined (Answers s budget command) (AnswersAll s budget commands) output partial
 
--- the bytes are answered with this output and this status, for one of four reasons
-pub data IsAnswered (bytes output : List ℕ) (result : Status) : Type 0 where
+-- the bytes are answered with this output and this status, each command within the budget, for one of four reasons
+pub data AnswersJob (budget : ℕ) (bytes output : List ℕ) (result : Status) : Type 0 where
   -- there are too many bytes
-  too_long : most_bytes < length bytes → result ≡ status.Refused → output ≡ fault_line TooLong → IsAnswered bytes output result
+  too_long : most_bytes < length bytes → result ≡ status.Refused → output ≡ fault_line TooLong → AnswersJob budget bytes output result
   -- they are no job
-  no_job : (fault : Fault) → length bytes ≤ most_bytes → IsFirstFault bytes fault → result ≡ status.Refused → output ≡ fault_line fault → IsAnswered bytes output result
+  no_job : (fault : Fault) → length bytes ≤ most_bytes → IsFirstFault bytes fault → result ≡ status.Refused → output ≡ fault_line fault → AnswersJob budget bytes output result
   -- the shape fails a test of building
   not_built : (draft : Draft) → (test : Test) → length bytes ≤ most_bytes → IsJob bytes draft → IsFirstFailure draft.d (draft_shape draft) test
-      → result ≡ stop_status (stop_of test) → output ≡ stop_line (stop_of test) → IsAnswered bytes output result
+      → result ≡ stop_status (stop_of test) → output ≡ stop_line (stop_of test) → AnswersJob budget bytes output result
   -- the surface of the shape is built, and the commands are answered in order
   answered : (draft : Draft) → (s : GluedPolygons) → (partial : Bool) → length bytes ≤ most_bytes → IsJob bytes draft
       → IsSurface s → HasShape draft.d (draft_shape draft) s → AllByRecursion (PassesOf draft.d (draft_shape draft)) (tests_of (draft_shape draft))
-      → AnswersAll s draft.commands output partial → result ≡ status_of partial → IsAnswered bytes output result
+      → AnswersAll s budget draft.commands output partial → result ≡ status_of partial → AnswersJob budget bytes output result
+
+-- these words and these bytes are answered with this output and this status: the words give the budget
+pub record IsAnswered (words : List (List ℕ)) (bytes output : List ℕ) (result : Status) : Type 0 where
+  pub budget : ℕ
+  pub given : GiveBudget words budget
+  pub answer : AnswersJob budget bytes output result
 
 -- the number of a status
 abbrev pub exit_code : Status → ℕ

@@ -1,16 +1,18 @@
 // `flat`: a job read from a source and answered into a sink.
 
-ghost use Rattle.std.specs.Prelude.{◌≡◌, ◌↔◌, ◌<◌, ◌≤◌, ℕ, List, length, IfSome};
+ghost use Rattle.std.specs.Prelude.{◌≡◌, ◌↔◌, ◌≤◌, ℕ, List, length, map, IfSome, string_bytes};
 ghost use Rattle.std.specs.Io.KnownBytes.{Appends, IsAtEnd, Keeps};
 ghost use Rattle.fs_io.specs.Faults.{Rose};
 ghost use Rattle.fs_io.specs.Whole.{most_bytes, TakesPrefix};
 ghost use Rattle.fs_job.specs.Reading as reading;
-ghost use Rattle.fs_cli.specs.Answer.{IsAnswered, IsWhole, IsBroken, BeginsEach};
+ghost use Rattle.fs_cli.specs.Words.{most_budget, GiveBudget};
+ghost use Rattle.fs_cli.specs.Answer.{AnswersJob, IsAnswered, IsWhole, IsBroken, BeginsEach};
 ghost use Rattle.fs_cli.specs.Writing.{Writes};
 
 use crate::answering::{answer_all, refuse, stop_at};
 use crate::laws::one_answer;
 use crate::outcome::Status;
+use crate::words::find_budget;
 use fs_gluing::{BuildStop, Fault, Shape, build};
 use fs_io::{ReadStop, Sink, Source, read_all};
 use fs_job::{Form, JobStop, job_or_fault, read_job};
@@ -25,10 +27,12 @@ fn form_shape(form: &Form) -> &Shape
     }
 }
 
-// Writes the answer to these bytes.
-fn answer<O: Sink>(alloc: Global, bytes: &[u8], out: &mut O) -> Status
-    requires { length bytes.now ≤ most_bytes }
-    ensures { Writes (IsAnswered bytes.now) result (O.held out.old) (O.held out.new) (O.faults out.old) (O.faults out.new) }
+// Writes the answer to these bytes, each command within the budget.
+fn answer<O: Sink>(alloc: Global, budget: u32, bytes: &[u8], out: &mut O) -> Status
+    requires few { length bytes.now ≤ most_bytes }
+    requires least { 1 ≤ budget }
+    requires most { budget ≤ most_budget }
+    ensures { Writes (AnswersJob budget bytes.now) result (O.held out.old) (O.held out.new) (O.faults out.old) (O.faults out.new) }
 {
     // Each text is one job or has one first fault, so its answer is unique.
     job_or_fault();
@@ -38,7 +42,7 @@ fn answer<O: Sink>(alloc: Global, bytes: &[u8], out: &mut O) -> Status
         Err(JobStop::NoMemory) => return Status::NoMemory,
     };
     match build(alloc, job.field, form_shape(&job.form)) {
-        Ok(surface) => answer_all(alloc, &surface, job.commands.as_slice(), out),
+        Ok(surface) => answer_all(alloc, &surface, budget, job.commands.as_slice(), out),
         Err(BuildStop::Fault(fault)) => refuse(alloc, &fault, out),
         Err(BuildStop::Overflow(site)) => stop_at(alloc, &site, out),
         Err(BuildStop::NoMemory) => Status::NoMemory,
@@ -47,7 +51,8 @@ fn answer<O: Sink>(alloc: Global, bytes: &[u8], out: &mut O) -> Status
 
 /// Reads a job, answers it, and says how that went.
 ///
-/// No word is admitted. `Refused` writes the line of the first fault. `Partial` writes the line of
+/// The words may be `--steps N` or `--steps=N`, with N from 1 to 1,000,000 in one to nine decimal digits;
+/// or there are none, and N is 100,000. Each command may take N steps. `Usage` comes exactly for other words. `Refused` writes the line of the first fault. `Partial` writes the line of
 /// the site where building overflowed, or the answers to the commands in order, of which at least
 /// one isn't whole. `Done` writes the answers to the commands in order: nothing where there are none.
 #[tactic(auto, using(crate::proofs::CallWrites::nothing_begins))]
@@ -57,24 +62,24 @@ pub fn flat<I: Source, O: Sink>(
     input: &mut I,
     out: &mut O,
 ) -> Status
-    // With any word nothing is read, written or counted.
-    ensures usage { (result ≡ Status.Usage) ↔ (0 < length words.now) }
+    // With words that aren't admitted nothing is read, written or counted.
+    ensures usage { (result ≡ Status.Usage) ↔ ((budget : ℕ) → ¬ GiveBudget (map string_bytes words.now) budget) }
     ensures untouched { result ≡ Status.Usage → (I.left input.new ≡ I.left input.old)
         × (I.faults input.new ≡ I.faults input.old) × (O.held out.new ≡ O.held out.old)
         × (O.faults out.new ≡ O.faults out.old) }
 
     // The whole answer was appended to what the sink held.
     ensures whole { IsWhole result → IfSome (I.left input.old) (λ bytes.
-        (output : List ℕ) × IsAnswered bytes output result × Appends (O.held out.old) (O.held out.new) output) }
-    // Each answer that the bytes have is this one.
+        (output : List ℕ) × IsAnswered (map string_bytes words.now) bytes output result × Appends (O.held out.old) (O.held out.new) output) }
+    // Each answer that the words and the bytes have is this one.
     ensures only { IsWhole result → IfSome (I.left input.old) (λ bytes.
-        (output : List ℕ) → (other : Status) → IsAnswered bytes output other → other ≡ result) }
+        (output : List ℕ) → (other : Status) → IsAnswered (map string_bytes words.now) bytes output other → other ≡ result) }
     // The source was read to its end, except for a text that is too long.
     ensures end { IsWhole result → IfSome (I.left input.old) (λ bytes.
         length bytes ≤ most_bytes → IsAtEnd (I.left input.new)) }
     // Where the sink failed or memory ran out, the sink got a prefix of the answer.
     ensures broken { IsBroken result → IfSome (I.left input.old) (λ bytes.
-        (prefix : List ℕ) × BeginsEach (IsAnswered bytes) prefix × Appends (O.held out.old) (O.held out.new) prefix) }
+        (prefix : List ℕ) × BeginsEach (IsAnswered (map string_bytes words.now) bytes) prefix × Appends (O.held out.old) (O.held out.new) prefix) }
     ensures read_fault { result ≡ Status.ReadFault
         → Keeps (O.held out.old) (O.held out.new) × Rose (I.faults input.old) (I.faults input.new) }
     ensures write_fault { result ≡ Status.WriteFault → Rose (O.faults out.old) (O.faults out.new) }
@@ -89,13 +94,13 @@ pub fn flat<I: Source, O: Sink>(
     ensures input_count { I.faults input.old ≤ I.faults input.new }
     ensures out_count { O.faults out.old ≤ O.faults out.new }
 {
-    if !words.is_empty() {
+    let Some(budget) = find_budget(words) else {
         return Status::Usage;
-    }
-    // Each text has one answer, with one status.
+    };
+    // Words and bytes have one answer, with one status.
     one_answer();
     match read_all(alloc, input) {
-        Ok(bytes) => answer(alloc, &bytes, out),
+        Ok(bytes) => answer(alloc, budget, &bytes, out),
         Err(ReadStop::TooLong) => refuse(alloc, &Fault::TooLong, out),
         Err(ReadStop::ReadFault) => Status::ReadFault,
         Err(ReadStop::NoMemory) => Status::NoMemory,

@@ -234,42 +234,6 @@ fn outside_faults(rt: HostRuntime) {
     }
 }
 
-// The words of a command line.
-static WORDS: [&[&str]; 8] = [
-    &[""],
-    &["--"],
-    &["--help"],
-    &["help"],
-    &["check"],
-    &["--steps"],
-    &["--steps", "0"],
-    &["--staircase", "3"],
-];
-
-// That these words are refused: nothing is read, written or counted.
-fn expect_usage(rt: &impl Abort, alloc: Global, texts: &[&str]) {
-    let mut words = Vec::new(alloc);
-    for text in texts.iter() {
-        let word = text.to_string(alloc).expect(rt, "memory");
-        words.push(word).expect(rt, "memory");
-    }
-    let mut input = MemSource::new(square_with(rt, alloc, 0, ""), 8, Vec::new(alloc));
-    let before = input.left().len();
-    let mut out = sink(rt, alloc, 64, Vec::new(alloc));
-    let status = flat(alloc, &words, &mut input, &mut out);
-    assert_eq!(rt; status, Status::Usage);
-    assert_eq!(rt; input.left().len(), before);
-    assert!(rt; out.held().is_empty());
-    assert_eq!(rt; (input.faults(), out.faults()), (0, 0));
-}
-
-#[test]
-fn words(rt: HostRuntime) {
-    for texts in WORDS.iter() {
-        expect_usage(&rt, rt.alloc(), texts);
-    }
-}
-
 // The number of each status, with which the program exits.
 static NUMBERS: [(Status, u8); 7] = [
     (Status::Done, 0),

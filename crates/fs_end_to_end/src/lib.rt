@@ -12,3 +12,5 @@ mod strata;
 mod streams;
 #[cfg(test)]
 mod surfaces;
+#[cfg(test)]
+mod words;

@@ -54,11 +54,11 @@ stratum_exists s surface none = area_exists s by_area
 -- ---- each command
 
 -- a command has one answer at most
-pub answer_unique : (s : GluedPolygons) (command : Command) (m n : List ℕ) (p q : Bool) → IsTranslationSurface s → Answers s command m p → Answers s command n q → (m ≡ n) × (p ≡ q)
-answer_unique s Check m n p q surface a b = (a.0 ∙ sym b.0, a.1 ∙ sym b.1)
-answer_unique s Stratum m n p q surface a b = stratum_unique s m n p q surface a b
+pub answer_unique : (s : GluedPolygons) (budget : ℕ) (command : Command) (m n : List ℕ) (p q : Bool) → IsTranslationSurface s → Answers s budget command m p → Answers s budget command n q → (m ≡ n) × (p ≡ q)
+answer_unique s budget Check m n p q surface a b = (a.0 ∙ sym b.0, a.1 ∙ sym b.1)
+answer_unique s budget Stratum m n p q surface a b = stratum_unique s m n p q surface a b
 
 -- a command has an answer
-pub answer_exists : (s : GluedPolygons) (command : Command) → IsTranslationSurface s → ((text : List ℕ) (partial : Bool) → ¬ Answers s command text partial) → ⊥
-answer_exists s Check surface none = none _ _ (refl, refl)
-answer_exists s Stratum surface none = stratum_exists s surface none
+pub answer_exists : (s : GluedPolygons) (budget : ℕ) (command : Command) → IsTranslationSurface s → ((text : List ℕ) (partial : Bool) → ¬ Answers s budget command text partial) → ⊥
+answer_exists s budget Check surface none = none _ _ (refl, refl)
+answer_exists s budget Stratum surface none = stratum_exists s surface none

@@ -99,7 +99,7 @@ pub data AnswersStratum (s : GluedPolygons) (text : List ℕ) (partial : Bool) :
   -- the area overflows there
   overflowed : (site : Site) → GivesArea s (Err site) → text ≡ overflow_line (codes "stratum") site → partial ≡ true → AnswersStratum s text partial
 
--- the answer to a command about a surface: this text, and whether it is in place of the whole answer
-abbrev pub Answers : GluedPolygons → Command → List ℕ → Bool → Type 0
-Answers s Check text partial = (text ≡ check_line (length s.polygons) (sum_by length s.polygons)) × (partial ≡ false)
-Answers s Stratum text partial = AnswersStratum s text partial
+-- the answer to a command about a surface, within a budget: this text, and whether it is in place of the whole answer
+abbrev pub Answers : GluedPolygons → ℕ → Command → List ℕ → Bool → Type 0
+Answers s budget Check text partial = (text ≡ check_line (length s.polygons) (sum_by length s.polygons)) × (partial ≡ false)
+Answers s budget Stratum text partial = AnswersStratum s text partial

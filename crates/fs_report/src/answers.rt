@@ -55,7 +55,7 @@ pub fn find_answer(
 ) -> Result<Answer, NoMemory>
     requires least { 1 ≤ budget }
     requires most { budget ≤ 1000000 }
-    ensures { IfOk result (λ answer. Answers surface.now command.now (string_bytes answer.text) answer.partial) }
+    ensures { IfOk result (λ answer. Answers surface.now budget command.now (string_bytes answer.text) answer.partial) }
 {
     let _ = budget;
     match command {

@@ -10,12 +10,12 @@ loop-command-init g c = record { written = ([], (false, (refl, refl), refl), App
 
 pub returns-in_default : goal.returns-in_default
 returns-in_default g c =
-    broken_off c.args.surface.now c.requires c.args.commands.now c.loop-command.command-index Check c.loop-command-test.true _ _ _ c.answer_one.result _ _ _
+    broken_off c.args.surface.now c.args.budget c.requires.surface c.args.commands.now c.loop-command.command-index Check c.loop-command-test.true _ _ _ c.answer_one.result _ _ _
     c.answer_one.ensures c.loop-command.invariant.written _ c.loop-command.invariant.kept c.in_default.not-Done c.in_default.not-Partial
 
 pub returns : goal.returns
 returns g c =
-    all_written c.args.surface.now c.requires c.args.commands.now c.loop-command.command-index _ _ c.loop-command.status _ _ c.loop-command-test.false
+    all_written c.args.surface.now c.args.budget c.requires.surface c.args.commands.now c.loop-command.command-index _ _ c.loop-command.status _ _ c.loop-command-test.false
     c.loop-command.invariant.written c.loop-command.invariant.kept
 
 pub loop-command-preserved : goal.loop-command-preserved
@@ -27,11 +27,11 @@ loop-command-preserved g c =
     let same = c.loop-command.invariant.kept in
     elim c.match-answer_one.branch [
       | in-Done w ↦ record {
-        written = done_more s c.requires commands i Check c.loop-command-test.true _ _ _ result _ _ _ c.answer_one.ensures c.loop-command.invariant.written _ w.in-Done.is w.status-is;
+        written = done_more s c.args.budget c.requires.surface commands i Check c.loop-command-test.true _ _ _ result _ _ _ c.answer_one.ensures c.loop-command.invariant.written _ w.in-Done.is w.status-is;
         kept = c.answer_one.ensures.kept (done_no_fault w.in-Done.is) ∙ same;
       }
       | in-Partial w ↦ record {
-        written = partial_more s c.requires commands i Check c.loop-command-test.true _ _ _ result _ _ _ c.answer_one.ensures c.loop-command.invariant.written _ w.in-Partial.is w.status-is;
+        written = partial_more s c.args.budget c.requires.surface commands i Check c.loop-command-test.true _ _ _ result _ _ _ c.answer_one.ensures c.loop-command.invariant.written _ w.in-Partial.is w.status-is;
         kept = c.answer_one.ensures.kept (partial_no_fault w.in-Partial.is) ∙ same;
       }
     ]

@@ -7,6 +7,6 @@ abbrev pub invariant-loop-command : goal.invariant-loop-command
 invariant-loop-command g l =
     let held = g.O.Sink.held in
     record {
-      written : AreAnswered l.surface l.commands l.command-index l.status (held l.initial.out) (held l.out);
+      written : AreAnswered l.surface l.budget l.commands l.command-index l.status (held l.initial.out) (held l.out);
       kept : g.O.Sink.faults l.out ≡ g.O.Sink.faults l.initial.out;
     }
