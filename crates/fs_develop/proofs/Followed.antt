@@ -4,6 +4,7 @@ use Rattle.fs_quadratic.specs.Ring.{Quadratic}
 use Rattle.fs_quadratic.specs.declared.steps.Place.{Place}
 use Rattle.fs_plane.specs.declared.corners.Corner.{Corner}
 use Rattle.std.specs.Result.{IsErrAnd}
+use Rattle.fs_lists.proofs.Results.{at_exit}
 use Rattle.fs_plane.specs.declared.sites.Site.{Site}
 use Rattle.fs_plane.specs.declared.sites.Stop.{Stop}
 use Rattle.fs_plane.specs.declared.sites.Stop.TheVariants as stops
@@ -56,9 +57,8 @@ module _ (s : GluedPolygons) (v : PlaneVector) (MayCross : List Corner → Corne
 
 -- a site that is returned as the reason of a stop
 pub returned_site : (P : Result (PathEnd Corner) Site → Type 0) (site : Site) (result : Result Walk Stop) → IsErrAnd result (λ e. e ≡ stops.Overflow site) → P (Err site) → ReturnsWalk P result
-returned_site P site (Ok walk) h p = absurd h
-returned_site P site (Err stop) h p = subst (λ e. ReturnsWalk P (Err e)) (sym h) p
+returned_site P site result h p = at_exit (ReturnsWalk P) result (stops.Overflow site) h p
 
+-- and one that is returned for a word
 pub returned_check_site : (P : Result (PathEnd Corner) Site → Type 0) (given : List Corner) (site : Site) (result : Result Bool Site) → IsErrAnd result (λ e. e ≡ site) → P (Err site) → ReturnsCheck P given result
-returned_check_site P given site (Ok held) h p = absurd h
-returned_check_site P given site (Err stop) h p = subst (λ e. P (Err e)) (sym h) p
+returned_check_site P given site result h p = at_exit (ReturnsCheck P given) result site h p

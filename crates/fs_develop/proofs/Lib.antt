@@ -9,3 +9,4 @@ pub mod PathSpots
 pub mod SurfaceReads
 pub mod Followed
 pub mod WordsFollowed
+pub mod ScaledVectors

@@ -12,7 +12,8 @@ use Rattle.fs_plane.specs.Vector.{PlaneVector, vector_add}
 use Rattle.fs_plane.specs.Formulas.{vector_sum_after, vector_difference_after}
 use Rattle.fs_plane.proofs.ComputedSigns.{after_value}
 
-step_value : {A : Type 0} (n : ℕ) (test : Bool) (value x : A) → step n test value ≡ Ok x → x ≡ value
+-- a step that gives a value gives its own
+pub step_value : {A : Type 0} (n : ℕ) (test : Bool) (value x : A) → step n test value ≡ Ok x → x ≡ value
 step_value n true value x e = cc
 step_value n false value x e = absurd cc
 

@@ -3,8 +3,10 @@
 
 mod entering;
 mod following;
+mod grid;
 mod looking;
 mod spots;
 mod walking;
 
+pub use grid::scale_to_grid;
 pub use walking::{Walk, check_segment, find_walk};

@@ -1,3 +1,4 @@
--- What the other proofs rest on: tests in their order, and equal vectors and corners.
+-- What the other proofs rest on: tests in their order, equal vectors and corners, and numbers that are read back.
 pub mod TestsInOrder
 pub mod Equality
+pub mod ReadBack

@@ -1,10 +1,9 @@
 -- The unscaled area: what is computed is the area, and a surface has exactly one.
-use Rattle.std.proofs.Common.{◌≡◌, ℕ, ℤ, pos, negsuc, to_z, of_z, ◌*ℤ◌, ◌*◌, ◌<◌, ◌^◌, ◌<ℤ◌, Result, Ok, Err, IsOk, IfOk, IfErr, [], ◌∷◌, refl, sym, ap, ◌∙◌, subst, arith}
+use Rattle.std.proofs.Common.{◌≡◌, ℕ, ℤ, pos, ◌*ℤ◌, ◌*◌, ◌<◌, ◌^◌, ◌<ℤ◌, Result, Ok, Err, IsOk, IfOk, IfErr, [], ◌∷◌, refl, sym, ap, ◌∙◌, subst, arith}
 use Rattle.std.specs.Prelude.{unsigned_abs}
-use Rattle.std.specs.Int.{◌∣◌, w128}
+use Rattle.std.specs.Int.{◌∣◌}
 use Rattle.std.proofs.Math.Nat.{eq-one_of_dvd-one}
-use Rattle.std.specs.Int.Signed.{mag}
-use Rattle.std.proofs.lemmas.Int.{ints, to_z-of_z, fits_signed_from_abs}
+use Rattle.std.proofs.lemmas.Int.{ints}
 use Rattle.fs_lists.proofs.Results.{err_equal}
 use Rattle.fs_ring.proofs.Integers.{integer_ring, integer_order}
 use Rattle.fs_ring.proofs.Signs.{mul_left_cancel}
@@ -88,15 +87,6 @@ module _ (d : ℕ) (twice : Quadratic) (den : ℕ) (positive : 0 < den) where
       (subst (λ (n : ℕ). HasValue (product d (half_over d twice den) (one_over den)) twice n) same whole)
 
 -- ---- what the calls return
-
--- the size of a number above 0 that a signed integer of 128 bits holds
-pub size_within : (z : ℤ) → pos 0 <ℤ z → mag z < 2 ^ 127 → unsigned_abs z < 2 ^ 127
-size_within (pos n) up fits = fits
-size_within (negsuc n) up fits = absurd (omega (arith, ints))
-
--- such a number is read back from its bits
-pub read_back : (z : ℤ) → pos 0 <ℤ z → mag z < 2 ^ 127 → to_z w128 (of_z w128 z) ≡ z
-read_back z up fits = to_z-of_z w128 z (fits_signed_from_abs w128 z (size_within z up fits))
 
 -- the code's 1/den
 pub inverse_is : (x : Fraction) (num : Quadratic) (den read : ℤ) → x ≡ reduced num (unsigned_abs read) → num ≡ one → read ≡ den → pos 0 <ℤ den → unsigned_abs den < 2 ^ 127 → x ≡ one_over (unsigned_abs den)

@@ -1,7 +1,8 @@
 use Rattle.std.proofs.Common.{ℤ, pos, ◌<ℤ◌, refl, sym, subst, ◌∙◌}
 use Rattle.fs_lists.proofs.Results.{at_exit}
+use Rattle.fs_gluing.proofs.Base.ReadBack.{read_back}
 use Rattle.fs_report.specs.Area.{GivesArea, at_triangle}
-use Rattle.fs_report.proofs.UnscaledArea.{area_computed, read_back}
+use Rattle.fs_report.proofs.UnscaledArea.{area_computed}
 use Rattle.fs_report.proofs.areas.find_area.Goals as goal
 
 pub returns-in_err-twice : goal.returns-in_err-twice

@@ -2,8 +2,9 @@ use Rattle.std.specs.Prelude.{unsigned_abs}
 use Rattle.std.proofs.Common.{arith}
 use Rattle.std.proofs.lemmas.Int.{ints}
 use Rattle.fs_lists.proofs.Results.{at_exit}
+use Rattle.fs_gluing.proofs.Base.ReadBack.{size_within, read_back}
 use Rattle.fs_report.specs.Area.{IsUnscaled}
-use Rattle.fs_report.proofs.UnscaledArea.{size_within, read_back, inverse_is, stops_once, unscaled_computed}
+use Rattle.fs_report.proofs.UnscaledArea.{inverse_is, stops_once, unscaled_computed}
 use Rattle.fs_report.proofs.areas.unscale.Goals as goal
 
 pub returns-in_err-once : goal.returns-in_err-once
