@@ -10,3 +10,4 @@ pub mod SurfaceReads
 pub mod Followed
 pub mod WordsFollowed
 pub mod ScaledVectors
+pub mod RunExists

@@ -1,3 +1,4 @@
+pub mod SegmentUnique
 pub mod Descending
 pub mod SortedOrders
 pub mod ListTexts

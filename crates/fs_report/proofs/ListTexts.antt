@@ -1,11 +1,12 @@
--- The texts of lists: numbers with commas, and the lines of vertices.
+-- The texts of lists: numbers with commas, the lines of vertices, and sides after spaces.
 use Rattle.std.proofs.Common.{◌≡◌, ◌≢◌, ℕ, zero, suc, ◌+◌, ◌<◌, Bool, true, false, cond, List, [], ◌∷◌, ◌++◌, length, take, get_or, eqb, inl, inr, refl, sym, ap, ◌∙◌, arith, append_assoc, append-nil}
 use Rattle.std.specs.Prelude.{codes}
 use Rattle.std.specs.Fmt.{decimal}
 use Rattle.std.proofs.lemmas.Bool.Decides.{eqb_tells}
 use Rattle.std.proofs.lemmas.List.{take_more}
 use Rattle.fs_stratum.specs.declared.cones.Cone.{Cone}
-use Rattle.fs_report.specs.Text.{with_commas, vertex_line, vertex_lines}
+use Rattle.fs_plane.specs.declared.corners.Corner.{Corner}
+use Rattle.fs_report.specs.Text.{with_commas, vertex_line, vertex_lines, corner_text, spaced_sides}
 
 -- a number after others
 commas_append : (m : ℕ) (ms : List ℕ) (n : ℕ) → with_commas ((m ∷ ms) ++ n ∷ []) ≡ with_commas (m ∷ ms) ++ (codes "," ++ decimal n)
@@ -76,3 +77,25 @@ vertices_written cones i d start text text' h before more =
     ∙ (ap (λ (bytes : List ℕ). bytes ++ vertex_line (get_or cones i d)) before
     ∙ (append_assoc start (vertex_lines (take i cones)) (vertex_line (get_or cones i d))
     ∙ ap (λ (bytes : List ℕ). start ++ bytes) (sym (vertices_take_more cones i d h))))
+
+-- ---- sides after spaces
+
+spaced_sides-append : (sides others : List Corner) → spaced_sides (sides ++ others) ≡ spaced_sides sides ++ spaced_sides others
+spaced_sides-append [] others = refl
+spaced_sides-append (c ∷ sides) others =
+    ap (λ (text : List ℕ). (codes " " ++ corner_text c) ++ text) (spaced_sides-append sides others) ∙ sym (append_assoc (codes " " ++ corner_text c) (spaced_sides sides) (spaced_sides others))
+
+-- the text with the next side added
+pub sides_written : (sides : List Corner) (i : ℕ) (d : Corner) (start text text' : List ℕ) → i < length sides → text ≡ start ++ spaced_sides (take i sides) → text' ≡ text ++ (codes " " ++ corner_text (get_or sides i d))
+    → text' ≡ start ++ spaced_sides (take (i + 1) sides)
+sides_written sides i d start text text' h before more =
+    more
+    ∙ (ap (λ (bytes : List ℕ). bytes ++ (codes " " ++ corner_text (get_or sides i d))) before
+    ∙ (append_assoc start (spaced_sides (take i sides)) (codes " " ++ corner_text (get_or sides i d))
+    ∙ ap (λ (bytes : List ℕ). start ++ bytes) (sym next)))
+  where
+    next : spaced_sides (take (i + 1) sides) ≡ spaced_sides (take i sides) ++ (codes " " ++ corner_text (get_or sides i d))
+    next =
+        ap spaced_sides (take_more sides i d h)
+        ∙ (spaced_sides-append (take i sides) (get_or sides i d ∷ [])
+        ∙ ap (λ (text : List ℕ). spaced_sides (take i sides) ++ text) (append-nil (codes " " ++ corner_text (get_or sides i d))))

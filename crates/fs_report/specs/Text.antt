@@ -1,17 +1,23 @@
 -- The texts of faults, of overflows, and of the answers to commands. The words of a line end before its line feed.
-use Rattle.std.specs.Prelude.{◌≡◌, ℕ, Bool, true, false, Ok, Err, List, [], ◌∷◌, ◌++◌, length, sum_by, codes}
+use Rattle.std.specs.Prelude.{◌≡◌, ℕ, Bool, true, false, Ok, Err, None, Some, List, [], ◌∷◌, ◌++◌, length, sum_by, codes}
 use Rattle.std.specs.Fmt.{decimal}
 use Rattle.fs_fraction.specs.Fraction.{Fraction}
 use Rattle.fs_fraction.specs.Number.{spelling}
 use Rattle.fs_plane.specs.declared.corners.Corner.{Corner}
 use Rattle.fs_plane.specs.declared.sites.Site.{Site}
+use Rattle.fs_plane.specs.Vector.{PlaneVector}
+use Rattle.fs_paths.specs.Ends.{PathEnd, outside_sector, segment, corner_before_end, ends_inside, longer}
 use Rattle.fs_gluing.specs.declared.faults.Fault.{Fault}
 use Rattle.fs_gluing.specs.declared.faults.Fault.TheVariants.{NotAscii, BadHeader, BadLine, BadNumber, BadField, TooMany, NoEnd, ZeroDirection, Wide, FewSides, NotClosed, NotConvex, TurnsTwice, NoSuchSide, GluedTwice, NotOpposite, Unglued, Apart, TooLong}
+use Rattle.fs_gluing.specs.declared.shapes.Point.{Point}
+use Rattle.fs_gluing.specs.Polygons.{HasSide}
 use Rattle.fs_gluing.specs.Surface.{GluedPolygons}
 use Rattle.fs_stratum.specs.declared.cones.Cone.{Cone}
 use Rattle.fs_stratum.specs.VertexList.{AreVertices, IsGenus}
 use Rattle.fs_job.specs.declared.job.Command.{Command}
-use Rattle.fs_job.specs.declared.job.Command.TheVariants.{Check, Stratum}
+use Rattle.fs_job.specs.declared.job.Command.TheVariants.{Check, Stratum, Segment}
+use Rattle.fs_develop.specs.Grid.{GivesScaled}
+use Rattle.fs_develop.specs.Walks.{WalksTo, IsPathEnd}
 use Rattle.fs_job.specs.SiteText.{site_text}
 use Rattle.fs_report.specs.Area.{GivesArea}
 use Rattle.fs_report.specs.Orders.{AreOrders}
@@ -99,7 +105,65 @@ pub data AnswersStratum (s : GluedPolygons) (text : List ℕ) (partial : Bool) :
   -- the area overflows there
   overflowed : (site : Site) → GivesArea s (Err site) → text ≡ overflow_line (codes "stratum") site → partial ≡ true → AnswersStratum s text partial
 
+-- ---- segment
+
+-- the command with its arguments
+abbrev pub segment_words : Corner → Point → List ℕ
+segment_words start v = codes "segment " ++ corner_text start ++ codes " " ++ spelling v.x ++ codes "," ++ spelling v.y
+
+-- sides with a space before each
+abbrev pub spaced_sides : List Corner → List ℕ
+spaced_sides [] = []
+spaced_sides (c ∷ word) = (codes " " ++ corner_text c) ++ spaced_sides word
+
+-- the crossed sides with spaces between them, or `-` where there are none
+abbrev pub word_text : List Corner → List ℕ
+word_text [] = codes "-"
+word_text (c ∷ word) = corner_text c ++ spaced_sides word
+
+-- how a path ends, within the budget of crossings
+abbrev pub end_words : ℕ → PathEnd Corner → List ℕ
+end_words budget outside_sector = codes "out-of-sector"
+end_words budget (segment word y) = codes "yes end " ++ corner_text y ++ codes " word " ++ word_text word
+end_words budget (corner_before_end word) = codes "vertex word " ++ word_text word
+end_words budget (ends_inside word) = codes "inside word " ++ word_text word
+end_words budget (longer word) = codes "undecided crossings " ++ decimal budget
+
+-- the budget is spent before the path ends
+abbrev pub is_undecided : PathEnd Corner → Bool
+is_undecided outside_sector = false
+is_undecided (segment word y) = false
+is_undecided (corner_before_end word) = false
+is_undecided (ends_inside word) = false
+is_undecided (longer word) = true
+
+-- the answer to `segment` where the scaled vector is w, after these words: where the path from a corner along it ends
+pub data AnswersPath (s : GluedPolygons) (budget : ℕ) (start : Corner) (w : PlaneVector) (words text : List ℕ) (partial : Bool) : Type 0 where
+  -- a formula of the path overflows
+  overflowed : (site : Site) → WalksTo s start w budget (Err site) → text ≡ overflow_line words site → partial ≡ true → AnswersPath s budget start w words text partial
+  -- the path ends so
+  ended : (end : PathEnd Corner) → WalksTo s start w budget (Ok end) → IsPathEnd s start w budget end
+      → text ≡ line_of (words ++ codes " " ++ end_words budget end) → partial ≡ is_undecided end → AnswersPath s budget start w words text partial
+
+-- the answer to `segment` about a surface
+pub data AnswersSegment (s : GluedPolygons) (budget : ℕ) (start : Corner) (v : Point) (text : List ℕ) (partial : Bool) : Type 0 where
+  -- the vector times the denominator isn't whole
+  off_grid : GivesScaled s v (Ok None) → text ≡ line_of (segment_words start v ++ codes " off-grid") → partial ≡ false → AnswersSegment s budget start v text partial
+  -- that product overflows
+  wide : (site : Site) → GivesScaled s v (Err site) → text ≡ overflow_line (segment_words start v) site → partial ≡ true → AnswersSegment s budget start v text partial
+  -- the path along it is followed
+  followed : (w : PlaneVector) → GivesScaled s v (Ok (Some w)) → AnswersPath s budget start w (segment_words start v) text partial → AnswersSegment s budget start v text partial
+
+-- ---- any command
+
 -- the answer to a command about a surface, within a budget: this text, and whether it is in place of the whole answer
 abbrev pub Answers : GluedPolygons → ℕ → Command → List ℕ → Bool → Type 0
 Answers s budget Check text partial = (text ≡ check_line (length s.polygons) (sum_by length s.polygons)) × (partial ≡ false)
 Answers s budget Stratum text partial = AnswersStratum s text partial
+Answers s budget (Segment line start v) text partial = AnswersSegment s budget start v text partial
+
+-- the surface has the corner that a command names
+abbrev pub HasCorner : GluedPolygons → Command → Type 0
+HasCorner s Check = Unit {0}
+HasCorner s Stratum = Unit {0}
+HasCorner s (Segment line start v) = HasSide s.polygons start

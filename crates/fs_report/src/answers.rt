@@ -1,8 +1,10 @@
 // Answers to commands.
 
 ghost use Rattle.std.specs.Prelude.{◌≡◌, ◌≤◌, length, sum_by, IfOk, string_bytes};
-ghost use Rattle.fs_report.specs.Text.{check_line, Answers};
+ghost use Rattle.fs_job.specs.Reading.{HasDirection};
+ghost use Rattle.fs_report.specs.Text.{check_line, Answers, HasCorner};
 
+use crate::segment::answer_segment;
 use crate::stratum::answer_stratum;
 use fs_fraction::NoMemory;
 use fs_gluing::Surface;
@@ -46,7 +48,8 @@ fn check_line(alloc: Global, surface: &Surface) -> Result<String, NoMemory>
     Ok(line)
 }
 
-/// The answer to a command about a surface, within a budget of 1 to 1,000,000 steps.
+/// The answer to a command about a surface, within a budget of 1 to 1,000,000 steps: `segment` crosses at most so many
+/// sides. The corner of a `segment` exists, and its vector isn't 0,0.
 pub fn find_answer(
     alloc: Global,
     surface: &Surface,
@@ -55,14 +58,16 @@ pub fn find_answer(
 ) -> Result<Answer, NoMemory>
     requires least { 1 ≤ budget }
     requires most { budget ≤ 1000000 }
+    requires corner { HasCorner surface.now command.now }
+    requires direction { HasDirection command.now }
     ensures { IfOk result (λ answer. Answers surface.now budget command.now (string_bytes answer.text) answer.partial) }
 {
-    let _ = budget;
     match command {
         Command::Check => Ok(Answer {
             text: check_line(alloc, surface)?,
             partial: false,
         }),
         Command::Stratum => answer_stratum(alloc, surface),
+        Command::Segment { start, v, .. } => answer_segment(alloc, surface, *start, v, budget),
     }
 }

@@ -4,6 +4,7 @@
 mod answers;
 mod areas;
 mod lines;
+mod segment;
 mod stratum;
 
 pub use answers::{Answer, find_answer};
