@@ -1,0 +1,5 @@
+// Tests of public calls of fs_job: tables of texts and results.
+#![tactic(auto)]
+
+#[cfg(test)]
+mod jobs;
