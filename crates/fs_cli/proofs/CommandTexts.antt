@@ -5,6 +5,8 @@ use Rattle.std.proofs.KnownBytes.{Appends-trans}
 use Rattle.std.proofs.Math.Bool.{or_assoc, or-false}
 use Rattle.std.proofs.lemmas.List.{take_more, drop_more, take_all}
 use Rattle.std.specs.List.{AllByRecursion}
+use Rattle.fs_lists.specs.First.{IsFirstWithout}
+use Rattle.fs_lists.proofs.All.{All-append}
 use Rattle.fs_lists.proofs.First.{first_not_all, first_unique, first_or_all}
 use Rattle.fs_io.specs.Faults.{Rose}
 use Rattle.fs_gluing.specs.Surface.{GluedPolygons, IsSurface}
@@ -218,3 +220,28 @@ module _ (s : GluedPolygons) (budget : ℕ) (surface : IsSurface s) where
           kept = λ _. same;
           never_falls = omega arith;
         }
+
+-- ---- the corners that commands name
+
+module _ (s : GluedPolygons) (commands : List Command) (i : ℕ) (x : Command) (h : i < length commands) (is : x ≡ get_or commands i x) where
+  -- those of one command more
+  pub corners_more : AllByRecursion (HasCorner s) (take i commands) → HasCorner s x → AllByRecursion (HasCorner s) (take (i + 1) commands)
+  corners_more all here =
+      subst (AllByRecursion (HasCorner s)) (sym (take_more commands i x h))
+      (All-append (HasCorner s) (take i commands) (get_or commands i x ∷ []) all (subst (HasCorner s) is here, tt))
+
+  -- the first that isn't there
+  pub first_missing : AllByRecursion (HasCorner s) (take i commands) → ¬ HasCorner s x → IsFirstWithout (HasCorner s) commands x
+  first_missing all missing = record {
+    before = take i commands;
+    after = drop (i + 1) commands;
+    whole =
+        sym (take-append-drop i commands) ∙ ap (λ (rest : List Command). take i commands ++ rest) (drop_more commands i x h)
+        ∙ ap (λ (c : Command). take i commands ++ c ∷ drop (i + 1) commands) (sym is);
+    passed = all;
+    fails = missing;
+  }
+
+-- and all of them
+pub corners_all : (s : GluedPolygons) (commands : List Command) (i : ℕ) → length commands ≤ i → AllByRecursion (HasCorner s) (take i commands) → AllByRecursion (HasCorner s) commands
+corners_all s commands i h all = subst (AllByRecursion (HasCorner s)) (take_all i commands h) all
