@@ -7,7 +7,7 @@ use Rattle.fs_ring.specs.Vector as plane
 use Rattle.fs_ring.specs.Vector.{Vector}
 use Rattle.fs_ring.specs.Direction.{InSector, InHalfPlane}
 use Rattle.fs_quadratic.specs.Ring.{Quadratic, quadratic, zero, one, add, neg, sign, IsPositive}
-use Rattle.fs_quadratic.specs.Width.{IsSmall}
+use Rattle.fs_quadratic.specs.Width.{IsSmall, IsTiny}
 
 -- a vector with parts p + q·√d, as contracts see a `V2`
 abbrev pub PlaneVector : Type 0
@@ -27,6 +27,10 @@ vector_add a b = record { x = add a.x b.x; y = add a.y b.y }
 -- both parts are small
 abbrev pub IsSmallVector : PlaneVector → Type 0
 IsSmallVector a = IsSmall a.x × IsSmall a.y
+
+-- both parts are tiny
+abbrev pub IsTinyVector : PlaneVector → Type 0
+IsTinyVector a = IsTiny a.x × IsTiny a.y
 
 -- the opposite vector
 abbrev pub vector_neg : PlaneVector → PlaneVector
