@@ -10,6 +10,7 @@ pub mod Vertices
 pub mod Scaling
 pub mod Shape
 pub mod Gluing
+pub mod PartnerTable
 pub mod FirstFault
 pub mod TestsInOrder
 pub mod SearchMarks
