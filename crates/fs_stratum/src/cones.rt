@@ -73,13 +73,16 @@ fn mark_vertex(surface: &Surface, first: Corner, marks: &mut CornerMarks) -> u32
     let field = surface.field();
     let mut k = 0;
     let mut corner = first;
+    let mut raised = surface.side(first).is_raised(field);
     while !marks.has(corner) {
         marks.mark(corner);
         let next = surface.turn(corner);
-        if !surface.side(corner).is_raised(field) && surface.side(next).is_raised(field) {
+        let next_raised = surface.side(next).is_raised(field);
+        if !raised && next_raised {
             k += 1;
         }
         corner = next;
+        raised = next_raised;
     }
     k
 }
