@@ -17,13 +17,25 @@ pub fn cross(field: Field, a: V2, b: V2) -> Result<Elem, Place>
 }
 
 // The cross product as a part of a formula, its places counted on from `before`.
+#[inline]
 fn cross_after(before: u32, field: Field, a: V2, b: V2) -> Result<Elem, Place>
     requires { before + 3 < 2 ^ 32 }
     ensures { result ≡ cross_after before field.d a b }
 {
     if a.is_tiny() && b.is_tiny() {
         Ok(cross_tiny(field, a, b))
-    } else if a.is_small() && b.is_small() {
+    } else {
+        cross_wide(before, field, a, b)
+    }
+}
+
+// The cross product of vectors that may not be tiny. It stands apart, so that the tiny ones take no call.
+#[inline(never)]
+fn cross_wide(before: u32, field: Field, a: V2, b: V2) -> Result<Elem, Place>
+    requires { before + 3 < 2 ^ 32 }
+    ensures { result ≡ cross_after before field.d a b }
+{
+    if a.is_small() && b.is_small() {
         Ok(cross_small(field, a, b))
     } else {
         cross_checked(before, field, a, b)
