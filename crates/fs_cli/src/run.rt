@@ -51,10 +51,12 @@ fn answer<O: Sink>(alloc: Global, budget: u32, bytes: &[u8], out: &mut O) -> Sta
 
 /// Reads a job, answers it, and says how that went.
 ///
-/// The words may be `--steps N` or `--steps=N`, with N from 1 to 1,000,000 in one to nine decimal digits;
-/// or there are none, and N is 100,000. Each command may take N steps. `Usage` comes exactly for other words. `Refused` writes the line of the first fault. `Partial` writes the line of
-/// the site where building overflowed, or the answers to the commands in order, of which at least
-/// one isn't whole. `Done` writes the answers to the commands in order: nothing where there are none.
+/// The words may be `--steps N` or `--steps=N`, N being 1 to 1,000,000 in one to nine decimal digits:
+/// each command may take N steps. Without words N is 100,000. `Usage` comes exactly for all other words.
+///
+/// `Refused` writes the line of the first fault. `Partial` writes the line of the site where building
+/// overflowed, or the answers to the commands in order, of which at least one isn't whole. `Done`
+/// writes the answers to the commands in order: nothing where there are none.
 #[tactic(auto, using(crate::proofs::CallWrites::nothing_begins))]
 pub fn flat<I: Source, O: Sink>(
     alloc: Global,

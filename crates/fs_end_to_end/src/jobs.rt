@@ -1,4 +1,4 @@
-// Jobs and their faults, limits, failing streams, and words of the command line.
+// Jobs and their faults, limits, and failing streams.
 
 use crate::running::{add, expect_change, repeated, sink, square_with};
 use fs_cli::{Status, flat};
@@ -182,8 +182,8 @@ fn expect_long(rt: &impl Abort, alloc: Global, len: usize, answer: &str, status:
     let mut input = MemSource::new(job, 4096, Vec::new(alloc));
     let mut out = sink(rt, alloc, 64, Vec::new(alloc));
     let got = flat(alloc, &[], &mut input, &mut out);
-    assert_eq!(rt; out.held(), answer.as_bytes());
-    assert_eq!(rt; got, status);
+    assert!(rt; out.held() == answer.as_bytes());
+    assert!(rt; got == status);
     assert!(rt; input.left().is_empty());
 }
 
@@ -222,9 +222,9 @@ fn expect_outside(rt: &impl Abort, alloc: Global, row: &(u64, u64, usize, Status
     let mut input = MemSource::new(job, 8, reads);
     let mut out = sink(rt, alloc, room, writes);
     let got = flat(alloc, &[], &mut input, &mut out);
-    assert_eq!(rt; got, status);
+    assert!(rt; got == status);
     assert!(rt; answer.starts_with(out.held()));
-    assert_eq!(rt; out.held().len(), held);
+    assert!(rt; out.held().len() == held);
 }
 
 #[test]
@@ -248,6 +248,6 @@ static NUMBERS: [(Status, u8); 7] = [
 #[test]
 fn numbers_of_statuses(rt: HostRuntime) {
     for (status, number) in NUMBERS.iter() {
-        assert_eq!(rt; status.code(), *number, "{status:?}");
+        assert!(rt; status.code() == *number, "{status:?}");
     }
 }

@@ -1,5 +1,4 @@
-// Tests of the whole call `flat` over memory: tables of jobs with their right answers. And a few of
-// the streams over the standard library's own.
+// Tests of the whole call `flat` over memory: tables of jobs with their right answers.
 #![tactic(auto)]
 
 #[cfg(test)]
@@ -8,8 +7,6 @@ mod jobs;
 mod running;
 #[cfg(test)]
 mod strata;
-#[cfg(test)]
-mod streams;
 #[cfg(test)]
 mod surfaces;
 #[cfg(test)]

@@ -55,8 +55,8 @@ pub fn expect_answer(rt: &impl Abort, alloc: Global, job: Vec<u8>, answer: &str)
     let mut input = MemSource::new(job, 64, Vec::new(alloc));
     let mut out = sink(rt, alloc, 8192, Vec::new(alloc));
     let status = flat(alloc, &[], &mut input, &mut out);
-    assert_eq!(rt; out.held(), answer.as_bytes(), "{answer}");
-    assert_eq!(rt; status, status_of(answer), "{answer}");
+    assert!(rt; out.held() == answer.as_bytes(), "{answer}");
+    assert!(rt; status == status_of(answer), "{answer}");
 }
 
 // That the unit square's job, with this text in place of one of its lines, is answered with
@@ -89,7 +89,7 @@ pub fn expect_lines(
 fn status_of(answer: &str) -> Status {
     if answer.starts_with("refused ") {
         Status::Refused
-    } else if answer.lines().any(|line| line.contains(" overflow ")) {
+    } else if answer.contains(" overflow ") {
         Status::Partial
     } else {
         Status::Done

@@ -93,9 +93,9 @@ fn run(rt: &impl Abort, alloc: Global, texts: &[&str]) -> (Status, MemSource, Me
 fn admitted(rt: HostRuntime) {
     for texts in ADMITTED.iter() {
         let (status, input, out) = run(&rt, rt.alloc(), texts);
-        assert_eq!(rt; status, Status::Done, "{texts:?}");
+        assert!(rt; status == Status::Done, "{texts:?}");
         assert!(rt; input.left().is_empty());
-        assert_eq!(rt; out.held(), "check polygons 1 sides 4\n".as_bytes());
+        assert!(rt; out.held() == "check polygons 1 sides 4\n".as_bytes());
     }
 }
 
@@ -105,9 +105,9 @@ fn refused(rt: HostRuntime) {
     let whole = square_with(&rt, rt.alloc(), 0, "");
     for texts in REFUSED.iter() {
         let (status, input, out) = run(&rt, rt.alloc(), texts);
-        assert_eq!(rt; status, Status::Usage, "{texts:?}");
-        assert_eq!(rt; input.left(), whole.as_slice());
+        assert!(rt; status == Status::Usage, "{texts:?}");
+        assert!(rt; input.left() == whole.as_slice());
         assert!(rt; out.held().is_empty());
-        assert_eq!(rt; (input.faults(), out.faults()), (0, 0));
+        assert!(rt; input.faults() == 0 && out.faults() == 0);
     }
 }

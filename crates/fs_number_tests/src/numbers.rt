@@ -682,58 +682,53 @@ static FIELDS: [(u16, bool); 9] = [
     (1001, false),
 ];
 
-// That the number has this sign.
-fn expect_sign(rt: &impl Abort, field: Field, x: Elem, expected: Ordering) {
-    assert_eq!(rt; field.sign(x), expected, "of {x:?} at {field:?}");
+// That a number of a row has this sign.
+fn expect_sign(rt: &impl Abort, row: usize, field: Field, x: Elem, expected: Ordering) {
+    assert_eq!(rt; field.sign(x), expected, "row {row}");
 }
 
-// That the product is this one, or overflows where none is given.
-fn expect_product(rt: &impl Abort, d: u16, x: Pair, y: Pair, product: Option<Pair>) {
+// That the product of a row is this one, or overflows where none is given.
+fn expect_product(rt: &impl Abort, row: usize, returned: Result<Elem, Op>, product: Option<Pair>) {
     let expected = match product {
         Some(parts) => Ok(elem(rt, parts)),
         None => Err(Op::Mul),
     };
-    let result = field(rt, d).mul(elem(rt, x), elem(rt, y));
-    assert_eq!(rt; result, expected, "{x:?} times {y:?} at {d}");
-}
-
-// That the numbers compare like this.
-fn expect_order(rt: &impl Abort, d: u16, x: Pair, y: Pair, expected: Ordering) {
-    let order = field(rt, d).cmp(elem(rt, x), elem(rt, y));
-    assert_eq!(rt; order, expected, "{x:?} and {y:?} at {d}");
+    assert_eq!(rt; returned, expected, "row {row}");
 }
 
 #[test]
 fn signs_near_zero(rt: HostRuntime) {
-    for (d, p, q, sign) in NEAR_ZERO.iter() {
+    for (row, (d, p, q, sign)) in NEAR_ZERO.iter().enumerate() {
         let field = field(&rt, *d);
         let x = elem(&rt, (*p, *q));
         let y = x.neg();
-        expect_sign(&rt, field, x, *sign);
-        expect_sign(&rt, field, y, sign.reverse());
-        expect_sign(&rt, field, Elem::new(x.p(), y.q()), Ordering::Greater);
-        expect_sign(&rt, field, Elem::new(y.p(), x.q()), Ordering::Less);
-        expect_sign(&rt, field, Elem::new(x.p(), 0), Ordering::Greater);
-        expect_sign(&rt, field, Elem::new(y.p(), 0), Ordering::Less);
-        expect_sign(&rt, field, Elem::new(0, y.q()), Ordering::Greater);
-        expect_sign(&rt, field, Elem::new(0, x.q()), Ordering::Less);
-        expect_sign(&rt, field, Elem::ZERO, Ordering::Equal);
+        expect_sign(&rt, row, field, x, *sign);
+        expect_sign(&rt, row, field, y, sign.reverse());
+        expect_sign(&rt, row, field, Elem::new(x.p(), y.q()), Ordering::Greater);
+        expect_sign(&rt, row, field, Elem::new(y.p(), x.q()), Ordering::Less);
+        expect_sign(&rt, row, field, Elem::new(x.p(), 0), Ordering::Greater);
+        expect_sign(&rt, row, field, Elem::new(y.p(), 0), Ordering::Less);
+        expect_sign(&rt, row, field, Elem::new(0, y.q()), Ordering::Greater);
+        expect_sign(&rt, row, field, Elem::new(0, x.q()), Ordering::Less);
+        expect_sign(&rt, row, field, Elem::ZERO, Ordering::Equal);
     }
 }
 
 #[test]
 fn products_at_the_edge(rt: HostRuntime) {
-    for (d, x, y, product) in PRODUCTS.iter() {
-        expect_product(&rt, *d, *x, *y, *product);
-        expect_product(&rt, *d, *y, *x, *product);
+    for (row, (d, x, y, product)) in PRODUCTS.iter().enumerate() {
+        let (field, a, b) = (field(&rt, *d), elem(&rt, *x), elem(&rt, *y));
+        expect_product(&rt, row, field.mul(a, b), *product);
+        expect_product(&rt, row, field.mul(b, a), *product);
     }
 }
 
 #[test]
 fn comparisons_of_distant_numbers(rt: HostRuntime) {
-    for (d, x, y, expected) in COMPARISONS.iter() {
-        expect_order(&rt, *d, *x, *y, *expected);
-        expect_order(&rt, *d, *y, *x, expected.reverse());
+    for (row, (d, x, y, expected)) in COMPARISONS.iter().enumerate() {
+        let (field, a, b) = (field(&rt, *d), elem(&rt, *x), elem(&rt, *y));
+        assert!(rt; field.cmp(a, b) == *expected, "row {row}");
+        assert!(rt; field.cmp(b, a) == expected.reverse(), "row {row}");
     }
 }
 

@@ -405,6 +405,20 @@ fn told(built: &Result<Surface, BuildStop>) -> Told {
     }
 }
 
+// The vector of a side.
+fn point(rt: &impl Abort, side: &(Parts, Parts)) -> Point {
+    Point {
+        x: frac(rt, side.0),
+        y: frac(rt, side.1),
+    }
+}
+
+// The same, where it is over 1.
+fn whole_point(rt: &impl Abort, side: &Vector) -> Point {
+    let ((p, q), (r, s)) = *side;
+    point(rt, &((p, q, 1), (r, s, 1)))
+}
+
 // The polygon with these sides, of which there are at most 100.
 fn polygon(
     rt: &impl Abort,
@@ -414,11 +428,8 @@ fn polygon(
     ensures { IfOk result (λ points. length points ≤ 100) }
 {
     let mut points = Sequence::new(alloc);
-    for (x, y) in sides {
-        points.push(Point {
-            x: frac(rt, *x),
-            y: frac(rt, *y),
-        })?;
+    for side in sides {
+        points.push(point(rt, side))?;
     }
     assert!(rt; points.len() <= 100);
     Ok(points)
@@ -433,11 +444,8 @@ fn whole_polygon(
     ensures { IfOk result (λ points. length points ≤ 100) }
 {
     let mut points = Sequence::new(alloc);
-    for (x, y) in sides {
-        points.push(Point {
-            x: frac(rt, (x.0, x.1, 1)),
-            y: frac(rt, (y.0, y.1, 1)),
-        })?;
+    for side in sides {
+        points.push(whole_point(rt, side))?;
     }
     assert!(rt; points.len() <= 100);
     Ok(points)
@@ -496,57 +504,73 @@ fn built_second(
     Ok(build(alloc, field(rt, 2), &shape))
 }
 
-// That a polygon has these results.
-fn expect_corner(rt: &impl Abort, alloc: Global, row: &Row) -> Result<(), Fail> {
+// That what was built for a row is this.
+fn expect(rt: &impl Abort, row: usize, returned: &Result<Surface, BuildStop>, expected: Told) {
+    assert!(rt; told(returned) == expected, "row {row}");
+}
+
+// That the polygon of a row has its results.
+fn expect_corner(rt: &impl Abort, alloc: Global, number: usize, row: &Row) -> Result<(), Fail> {
     let without = built(rt, alloc, whole_polygon(rt, alloc, row.0)?, row.1, false)?;
-    assert_eq!(rt; told(&without), row.2, "{row:?}");
+    expect(rt, number, &without, row.2);
     let with = built(rt, alloc, whole_polygon(rt, alloc, row.0)?, row.1, true)?;
-    assert_eq!(rt; told(&with), row.3, "{row:?}");
+    expect(rt, number, &with, row.3);
     Ok(())
 }
 
 #[test]
 fn corners_and_positions(rt: HostRuntime) -> Result<(), Fail> {
-    for row in CORNERS.iter() {
-        expect_corner(&rt, rt.alloc(), row)?;
+    for (number, row) in CORNERS.iter().enumerate() {
+        expect_corner(&rt, rt.alloc(), number, row)?;
     }
     Ok(())
 }
 
 #[test]
 fn scaling(rt: HostRuntime) -> Result<(), Fail> {
-    for (sides, expected) in SCALES.iter() {
-        let result = built(
-            &rt,
-            rt.alloc(),
-            polygon(&rt, rt.alloc(), sides)?,
-            &[],
-            false,
-        )?;
-        assert_eq!(rt; told(&result), *expected, "{sides:?}");
+    for (row, (sides, expected)) in SCALES.iter().enumerate() {
+        let points = polygon(&rt, rt.alloc(), sides)?;
+        let returned = built(&rt, rt.alloc(), points, &[], false)?;
+        expect(&rt, row, &returned, *expected);
     }
+    Ok(())
+}
+
+// That a square and the polygon of a row have this result.
+fn expect_second(
+    rt: &impl Abort,
+    alloc: Global,
+    row: usize,
+    sides: &[(Parts, Parts)],
+    straight: bool,
+    expected: Told,
+) -> Result<(), Fail> {
+    let returned = built_second(rt, alloc, polygon(rt, alloc, sides)?, straight)?;
+    expect(rt, row, &returned, expected);
     Ok(())
 }
 
 #[test]
 fn second_polygons(rt: HostRuntime) -> Result<(), Fail> {
-    for (sides, without, with) in SECONDS.iter() {
-        let result = built_second(&rt, rt.alloc(), polygon(&rt, rt.alloc(), sides)?, false)?;
-        assert_eq!(rt; told(&result), *without, "{sides:?}");
-        let result = built_second(&rt, rt.alloc(), polygon(&rt, rt.alloc(), sides)?, true)?;
-        assert_eq!(rt; told(&result), *with, "{sides:?}");
+    for (row, (sides, without, with)) in SECONDS.iter().enumerate() {
+        expect_second(&rt, rt.alloc(), row, sides, false, *without)?;
+        expect_second(&rt, rt.alloc(), row, sides, true, *with)?;
     }
+    Ok(())
+}
+
+// That the rectangle's surface has the denominator 12 and this mark.
+fn expect_rectangle(rt: &impl Abort, alloc: Global, straight: bool) -> Result<(), Fail> {
+    let points = polygon(rt, alloc, &RECTANGLE)?;
+    let returned = built(rt, alloc, points, &[(0, 2), (1, 3)], straight)?;
+    let surface = returned.expect(rt, "a surface");
+    assert!(rt; surface.den() == 12);
+    assert!(rt; surface.straight() == straight);
     Ok(())
 }
 
 #[test]
 fn least_denominator_and_the_mark(rt: HostRuntime) -> Result<(), Fail> {
-    for straight in [false, true] {
-        let points = polygon(&rt, rt.alloc(), &RECTANGLE)?;
-        let surface = built(&rt, rt.alloc(), points, &[(0, 2), (1, 3)], straight)?;
-        let surface = surface.expect(&rt, "a surface");
-        assert_eq!(rt; surface.den(), 12);
-        assert_eq!(rt; surface.straight(), straight);
-    }
-    Ok(())
+    expect_rectangle(&rt, rt.alloc(), false)?;
+    expect_rectangle(&rt, rt.alloc(), true)
 }

@@ -393,70 +393,68 @@ static UPPER_AND_RAISED: [(Vector, bool, bool); 7] = [
     (((5, 0), (1, -1)), false, false),
 ];
 
-// That what a call returned is the number of these parts, or the place of this number; `of` says
-// what it was called with.
-fn expect(
-    rt: &impl Abort,
-    returned: Result<Elem, Place>,
-    outcome: Outcome,
-    of: (u16, Vector, Vector),
-) {
+// That what a call returned for a row is the number of these parts, or the place of this number.
+fn expect(rt: &impl Abort, row: usize, returned: Result<Elem, Place>, outcome: Outcome) {
     let expected = match outcome {
         Ok(parts) => Ok(elem(rt, parts)),
         Err(place) => Err(Place(place)),
     };
-    assert_eq!(rt; returned, expected, "of {of:?}");
+    assert_eq!(rt; returned, expected, "row {row}");
 }
 
 #[test]
 fn formulas_and_their_places(rt: HostRuntime) {
-    for (d, a, b, (across, along, length)) in FORMULAS.iter() {
+    for (row, (d, a, b, (across, along, length))) in FORMULAS.iter().enumerate() {
         let field = field(&rt, *d);
         let (v, w) = (vector(&rt, *a), vector(&rt, *b));
-        expect(&rt, cross(field, v, w), *across, (*d, *a, *b));
-        expect(&rt, dot(field, v, w), *along, (*d, *a, *b));
-        expect(&rt, norm(field, v), *length, (*d, *a, *a));
+        expect(&rt, row, cross(field, v, w), *across);
+        expect(&rt, row, dot(field, v, w), *along);
+        expect(&rt, row, norm(field, v), *length);
     }
+}
+
+// That what a call returned for a row is this, or the place of this number.
+fn expect_sector(
+    rt: &impl Abort,
+    row: usize,
+    returned: Result<bool, Place>,
+    outcome: Result<bool, u32>,
+) {
+    let expected = match outcome {
+        Ok(inside) => Ok(inside),
+        Err(place) => Err(Place(place)),
+    };
+    assert_eq!(rt; returned, expected, "row {row}");
 }
 
 #[test]
 fn sectors_and_their_places(rt: HostRuntime) {
-    for (d, out, incoming, v, expected) in SECTORS.iter() {
+    for (row, (d, out, incoming, v, expected)) in SECTORS.iter().enumerate() {
         let result = in_sector(
             field(&rt, *d),
             vector(&rt, *out),
             vector(&rt, *incoming),
             vector(&rt, *v),
         );
-        assert_eq!(rt;
-            result,
-            expected.map_err(Place),
-            "{v:?} in the sector from {out:?} to the opposite of {incoming:?}"
-        );
+        expect_sector(&rt, row, result, *expected);
     }
 }
 
 #[test]
 fn small_vectors(rt: HostRuntime) {
-    for (parts, x, y) in SIZES.iter() {
+    for (row, (parts, x, y)) in SIZES.iter().enumerate() {
         let v = vector(&rt, *parts);
-        assert_eq!(rt;
-            (v.x.is_small(), v.y.is_small(), v.is_small()),
-            (*x, *y, *x && *y),
-            "{parts:?}"
-        );
+        assert!(rt; v.x.is_small() == *x && v.y.is_small() == *y, "row {row}");
+        assert!(rt; v.is_small() == (*x && *y), "row {row}");
     }
 }
 
 #[test]
 fn upper_and_raised_vectors(rt: HostRuntime) {
     let field = field(&rt, 2);
-    for (parts, upper, raised) in UPPER_AND_RAISED.iter() {
+    for (row, (parts, upper, raised)) in UPPER_AND_RAISED.iter().enumerate() {
         let v = vector(&rt, *parts);
-        assert_eq!(rt;
-            (v.is_upper(field), v.is_raised(field)),
-            (*upper, *raised),
-            "{parts:?}"
-        );
+        assert!(rt; v.is_upper(field) == *upper, "row {row}");
+        assert!(rt; v.is_raised(field) == *raised, "row {row}");
     }
 }

@@ -1,7 +1,7 @@
 // Fractions in lowest terms: sums, products, inverses and quotients. Expected values were computed
 // with whole numbers of any size. Each number of a computation that can overflow alone does so in a
 // row, and is within the width by little in another; q·q overflows together with d·q·q.
-use crate::common::{MOST, Parts, field, frac};
+use crate::common::{MOST, Parts, elem, field, frac};
 use fs_fraction::{Frac, FracStop, add, div, inv, mul, sub};
 use fs_quadratic::Elem;
 use std::process::Abort;
@@ -559,77 +559,73 @@ static QUOTIENTS: [(u16, Parts, Parts, Option<Parts>); 7] = [
     ),
 ];
 
-// That what a call returned is the fraction of these parts, or an overflow where none are given;
-// `of` says what it was called with.
-fn expect(
-    rt: &impl Abort,
-    returned: Result<Frac, FracStop>,
-    parts: Option<Parts>,
-    of: (u16, Parts, Parts),
-) {
+// That what a call returned for a row is the fraction of these parts, or an overflow where none are
+// given.
+fn expect(rt: &impl Abort, row: usize, returned: Result<Frac, FracStop>, parts: Option<Parts>) {
     let expected = match parts {
         Some(parts) => Ok(frac(rt, parts)),
         None => Err(FracStop::Overflow),
     };
-    assert_eq!(rt; returned, expected, "of {of:?}");
+    assert_eq!(rt; returned, expected, "row {row}");
+}
+
+// That the numerator and the denominator of a row's fraction are these.
+fn expect_parts(rt: &impl Abort, row: usize, x: Frac, parts: Parts) {
+    assert!(rt; x.num() == elem(rt, (parts.0, parts.1)), "row {row}");
+    assert!(rt; x.den() == parts.2, "row {row}");
+    assert!(rt; x.denominator() == parts.2.unsigned_abs(), "row {row}");
 }
 
 #[test]
 fn lowest_terms(rt: HostRuntime) {
-    for (parts, (p, q, den)) in LOWEST.iter() {
-        let x = frac(&rt, *parts);
-        let natural = den.unsigned_abs();
-        assert_eq!(rt;
-            (x.num().p(), x.num().q(), x.den(), x.denominator()),
-            (*p, *q, *den, natural),
-            "of {parts:?}"
-        );
+    for (row, (parts, lowest)) in LOWEST.iter().enumerate() {
+        expect_parts(&rt, row, frac(&rt, *parts), *lowest);
     }
 }
 
 #[test]
 fn sums_at_the_edge(rt: HostRuntime) {
     let field = field(&rt, 2);
-    for (x, y, sum) in SUMS.iter() {
+    for (row, (x, y, sum)) in SUMS.iter().enumerate() {
         let (a, b) = (frac(&rt, *x), frac(&rt, *y));
-        expect(&rt, add(field, a, b), *sum, (2, *x, *y));
-        expect(&rt, add(field, b, a), *sum, (2, *y, *x));
+        expect(&rt, row, add(field, a, b), *sum);
+        expect(&rt, row, add(field, b, a), *sum);
     }
 }
 
 #[test]
 fn differences_at_the_edge(rt: HostRuntime) {
     let field = field(&rt, 2);
-    for (x, y, sum) in SUMS.iter() {
+    for (row, (x, y, sum)) in SUMS.iter().enumerate() {
         let (a, b) = (frac(&rt, *x), frac(&rt, *y));
-        expect(&rt, sub(field, a, b.neg()), *sum, (2, *x, *y));
+        expect(&rt, row, sub(field, a, b.neg()), *sum);
     }
 }
 
 #[test]
 fn products_at_the_edge(rt: HostRuntime) {
-    for (d, x, y, product) in PRODUCTS.iter() {
+    for (row, (d, x, y, product)) in PRODUCTS.iter().enumerate() {
         let field = field(&rt, *d);
         let (a, b) = (frac(&rt, *x), frac(&rt, *y));
-        expect(&rt, mul(field, a, b), *product, (*d, *x, *y));
-        expect(&rt, mul(field, b, a), *product, (*d, *y, *x));
+        expect(&rt, row, mul(field, a, b), *product);
+        expect(&rt, row, mul(field, b, a), *product);
     }
 }
 
 #[test]
 fn inverses_at_the_edge(rt: HostRuntime) {
-    for (d, x, inverse) in INVERSES.iter() {
+    for (row, (d, x, inverse)) in INVERSES.iter().enumerate() {
         let a = frac(&rt, *x);
         assert!(rt; a.num() != Elem::ZERO);
-        expect(&rt, inv(field(&rt, *d), a), *inverse, (*d, (1, 0, 1), *x));
+        expect(&rt, row, inv(field(&rt, *d), a), *inverse);
     }
 }
 
 #[test]
 fn quotients(rt: HostRuntime) {
-    for (d, x, y, quotient) in QUOTIENTS.iter() {
+    for (row, (d, x, y, quotient)) in QUOTIENTS.iter().enumerate() {
         let (a, b) = (frac(&rt, *x), frac(&rt, *y));
         assert!(rt; b.num() != Elem::ZERO);
-        expect(&rt, div(field(&rt, *d), a, b), *quotient, (*d, *x, *y));
+        expect(&rt, row, div(field(&rt, *d), a, b), *quotient);
     }
 }

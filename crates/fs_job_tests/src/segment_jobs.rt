@@ -1,6 +1,6 @@
 // Jobs with `segment` lines: which are read, what they say, and the first fault of the others.
 
-use fs_fraction::{Frac, read_number};
+use crate::common::expect_vector;
 use fs_gluing::Fault;
 use fs_job::{Command, JobStop, read_job};
 use fs_plane::Corner;
@@ -162,7 +162,7 @@ fn expect_each(
 ) -> Result<(), Fail> {
     for line in lines {
         let text = with_line(alloc, line)?;
-        assert_eq!(rt; stop_of(rt, alloc, text.as_slice()), expected, "{line}");
+        assert!(rt; stop_of(rt, alloc, text.as_slice()) == expected, "{line}");
     }
     Ok(())
 }
@@ -201,15 +201,18 @@ fn zero_directions(rt: HostRuntime) -> Result<(), Fail> {
 }
 
 #[test]
-fn whole_jobs(rt: HostRuntime) {
-    for text in READ_TEXTS {
-        assert_eq!(rt; stop_of(&rt, rt.alloc(), text.as_bytes()), None, "{text}");
+fn whole_jobs_that_are_read(rt: HostRuntime) {
+    for text in READ_TEXTS.iter() {
+        assert!(rt; stop_of(&rt, rt.alloc(), text.as_bytes()) == None, "{text}");
     }
-    for (text, fault) in FAULTS {
-        let expected = Some(JobStop::Fault(fault));
-        assert_eq!(rt;
-            stop_of(&rt, rt.alloc(), text.as_bytes()),
-            expected,
+}
+
+#[test]
+fn first_faults_of_whole_jobs(rt: HostRuntime) {
+    for (text, fault) in FAULTS.iter() {
+        let expected = Some(JobStop::Fault(*fault));
+        assert!(rt;
+            stop_of(&rt, rt.alloc(), text.as_bytes()) == expected,
             "{text}"
         );
     }
@@ -226,33 +229,44 @@ fn after_256(alloc: Global, line: &str) -> Result<Vec<u8>, AllocError> {
     Ok(text)
 }
 
+// Lines after 256 commands, and the fault.
+static AFTER_256: [(&str, Option<Fault>); 6] = [
+    ("end\n", None),
+    ("segment 0.0 2,1\n", Some(Fault::TooMany { line: 260 })),
+    ("segment 0.0 x,1\n", Some(Fault::TooMany { line: 260 })),
+    ("segment 0.0 0,0\n", Some(Fault::TooMany { line: 260 })),
+    ("segment 0.0 2\n", Some(Fault::BadLine { line: 260 })),
+    ("\nsegment 0.0 2,1\n", Some(Fault::TooMany { line: 261 })),
+];
+
 #[test]
 fn most_commands(rt: HostRuntime) -> Result<(), Fail> {
-    let rows = [
-        ("end\n", None),
-        ("segment 0.0 2,1\n", Some(Fault::TooMany { line: 260 })),
-        ("segment 0.0 x,1\n", Some(Fault::TooMany { line: 260 })),
-        ("segment 0.0 0,0\n", Some(Fault::TooMany { line: 260 })),
-        ("segment 0.0 2\n", Some(Fault::BadLine { line: 260 })),
-        ("\nsegment 0.0 2,1\n", Some(Fault::TooMany { line: 261 })),
-    ];
-    for (line, fault) in rows {
+    for (line, fault) in AFTER_256.iter() {
         let text = after_256(rt.alloc(), line)?;
         let expected = fault.map(JobStop::Fault);
-        assert_eq!(rt;
-            stop_of(&rt, rt.alloc(), text.as_slice()),
-            expected,
+        assert!(rt;
+            stop_of(&rt, rt.alloc(), text.as_slice()) == expected,
             "{line}"
         );
     }
     Ok(())
 }
 
-// The fraction that a text spells.
-fn number(rt: &impl Abort, text: &str) -> Frac {
-    match read_number(text.as_bytes()) {
-        Ok(x) => x,
-        Err(_) => panic!(rt; "{text}"),
+// That a command is this `segment` line.
+fn expect_segment(
+    rt: &impl Abort,
+    command: &Command,
+    number: u32,
+    corner: Corner,
+    x: &str,
+    y: &str,
+) {
+    match command {
+        Command::Segment { line, start, v } => {
+            assert!(rt; *line == number && *start == corner);
+            expect_vector(rt, v, x, y);
+        }
+        _ => panic!(rt; "no segment"),
     }
 }
 
@@ -262,21 +276,10 @@ fn what_a_segment_line_says(rt: HostRuntime) -> Result<(), Fail> {
         b"flatsurf 1\nfield 2\n\npolygon\ncheck\nsegment 0007.32 2/4-3r,0\n\n segment 1.0 0,-5\nstratum\nend";
     let job = read_job(rt.alloc(), text).ok().ok_or("no job")?;
     let commands = job.commands.as_slice();
-    assert_eq!(rt; commands.len(), 4);
+    assert!(rt; commands.len() == 4);
     assert!(rt; matches!(commands[0], Command::Check));
+    expect_segment(&rt, &commands[1], 6, Corner::new(7, 32), "1/2-3r", "0");
+    expect_segment(&rt, &commands[2], 8, Corner::new(1, 0), "0", "-5");
     assert!(rt; matches!(commands[3], Command::Stratum));
-    let rows = [
-        (&commands[1], 6, Corner::new(7, 32), "1/2-3r", "0"),
-        (&commands[2], 8, Corner::new(1, 0), "0", "-5"),
-    ];
-    for (command, number_of_line, corner, x, y) in rows {
-        let Command::Segment { line, start, v } = command else {
-            return Err("no segment".into());
-        };
-        assert_eq!(rt; *line, number_of_line);
-        assert_eq!(rt; *start, corner);
-        assert_eq!(rt; v.x, number(&rt, x));
-        assert_eq!(rt; v.y, number(&rt, y));
-    }
     Ok(())
 }

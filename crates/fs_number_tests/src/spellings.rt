@@ -1,7 +1,8 @@
 // Numbers as texts, as they are read and as they are printed.
 use crate::common::{Parts, frac};
-use fs_fraction::{NoMemory, NumberFault, print_number, read_number};
+use fs_fraction::{Frac, NoMemory, NumberFault, print_number, read_number};
 use std::alloc::Global;
+use std::process::Abort;
 
 // Texts, each with the one spelling of the number that it spells, or with the fault for which it is
 // refused.
@@ -284,6 +285,12 @@ static WIDE: [(&str, Parts); 3] = [
     ),
 ];
 
+// That a number is printed as this text.
+fn expect_printed(rt: &impl Abort, alloc: Global, x: Frac, text: &str) {
+    let printed = print_number(alloc, x).expect(rt, "memory");
+    assert!(rt; printed.as_bytes() == text.as_bytes(), "{text}");
+}
+
 // The one spelling of the number that a text is read as, or the name of its fault.
 fn reprinted(alloc: Global, text: &[u8]) -> Result<String, NoMemory> {
     match read_number(text) {
@@ -297,7 +304,7 @@ fn reprinted(alloc: Global, text: &[u8]) -> Result<String, NoMemory> {
 fn numbers_of_the_table(rt: HostRuntime) {
     for (text, expected) in NUMBERS.iter() {
         let printed = reprinted(rt.alloc(), text.as_bytes()).expect(&rt, "memory");
-        assert_eq!(rt; printed.as_bytes(), expected.as_bytes(), "{text}");
+        assert!(rt; printed.as_bytes() == expected.as_bytes(), "{text}");
     }
 }
 
@@ -305,20 +312,17 @@ fn numbers_of_the_table(rt: HostRuntime) {
 fn examples_of_the_spelling(rt: HostRuntime) {
     for (text, parts) in EXAMPLES.iter() {
         let x = frac(&rt, *parts);
-        let printed = print_number(rt.alloc(), x).expect(&rt, "memory");
-        assert_eq!(rt; printed.as_bytes(), text.as_bytes(), "{text}");
-        assert_eq!(rt; read_number(text.as_bytes()), Ok(x), "{text}");
+        expect_printed(&rt, rt.alloc(), x, text);
+        assert!(rt; read_number(text.as_bytes()) == Ok(x), "{text}");
     }
 }
 
 #[test]
 fn wide_numbers_are_printed(rt: HostRuntime) {
     for (text, parts) in WIDE.iter() {
-        let printed = print_number(rt.alloc(), frac(&rt, *parts)).expect(&rt, "memory");
-        assert_eq!(rt; printed.as_bytes(), text.as_bytes(), "{text}");
-        assert_eq!(rt;
-            read_number(text.as_bytes()),
-            Err(NumberFault::Wide),
+        expect_printed(&rt, rt.alloc(), frac(&rt, *parts), text);
+        assert!(rt;
+            read_number(text.as_bytes()) == Err(NumberFault::Wide),
             "{text}"
         );
     }

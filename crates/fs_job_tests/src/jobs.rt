@@ -1,12 +1,13 @@
-// Jobs read from texts, and the texts of sites.
+// Jobs read from texts, or their first faults.
 
-use fs_fraction::{Frac, read_number};
-use fs_gluing::{Fault, Glue};
-use fs_job::{Command, Form, Job, JobStop, print_site, read_job};
-use fs_plane::{Corner, Site};
+use fs_gluing::Fault;
+use fs_job::{Job, JobStop, read_job};
 use std::alloc::{AllocError, Global};
 use std::process::Abort;
 use std::test::Fail;
+
+// A result: `read`, or the name of the fault, and the line that it names, or 0.
+type Told = (&'static str, u32);
 
 // The job of the unit square.
 const SQUARE: [&str; 7] = [
@@ -161,7 +162,183 @@ static CHANGES: [(usize, &str, &str); 124] = [
 ];
 
 // Whole texts, the name of the result of each, and its line.
-static TEXTS: [(&[u8], &str, u32); 49] = [
+static TEXTS: [(&str, &str, u32); 44] = [
+    ("", "BadHeader", 0),
+    (
+        "flatsurf 1\nfield 2\npolygon 1,0 0,1 -1,0 0,-1\nglue 0.0 0.2\nglue 0.1 0.3\ncheck\nend\n\n",
+        "read",
+        0,
+    ),
+    (
+        "flatsurf 1\nfield 2\npolygon 1,0 0,1 -1,0 0,-1\nglue 0.0 0.2\nglue 0.1 0.3\ncheck\nend\n\n \t\n",
+        "read",
+        0,
+    ),
+    (
+        "\x01\nflatsurf 1\nfield 2\npolygon 1,0 0,1 -1,0 0,-1\nglue 0.0 0.2\nglue 0.1 0.3\ncheck\nend\n",
+        "NotAscii",
+        1,
+    ),
+    (
+        "  flatsurf \t 1 \t\n  field \t 2 \t\n  polygon \t 1,0 \t 0,1 \t -1,0 \t 0,-1 \t\n  glue \t 0.0 \t 0.2 \t\n  glue \t 0.1 \t 0.3 \t\n  check \t\n  end \t\n",
+        "read",
+        0,
+    ),
+    (
+        "flatsurf 1\nfield 2\npolygon 1,0 0,1 -1,0 0,-1\nglue 0.0 0.2\nglue 0.1 0.3\ncheck\nend\r",
+        "NotAscii",
+        7,
+    ),
+    (
+        "flatsurf 1\r\nfield 2\r\npolygon 1,0 0,1 -1,0 0,-1\r\nglue 0.0 0.2\r\nglue 0.1 0.3\r\ncheck\r\nend\r\n",
+        "read",
+        0,
+    ),
+    (
+        "flatsurf 1\nfield 2\npolygon 1,0 0,1 -1,0 0,-1\ncheck\nglue 0.0 0.2\nglue 0.1 0.3\nend\n",
+        "BadLine",
+        5,
+    ),
+    (
+        "flatsurf 1\nfield 2\ncheck\npolygon 1,0 0,1 -1,0 0,-1\nglue 0.0 0.2\nglue 0.1 0.3\ncheck\nend\n",
+        "BadLine",
+        3,
+    ),
+    (
+        "flatsurf 1\nfield 2\n# a comment\npolygon 1,0 0,1 -1,0 0,-1\nglue 0.0 0.2\nglue 0.1 0.3\ncheck\nend\n",
+        "BadLine",
+        3,
+    ),
+    ("flatsurf 1\nfield 2\nend\n", "BadLine", 3),
+    (
+        "flatsurf 1\npolygon 1,0 0,1 -1,0 0,-1\nfield 2\nglue 0.0 0.2\nglue 0.1 0.3\ncheck\nend\n",
+        "BadLine",
+        2,
+    ),
+    (
+        "flatsurf 1\nfield 2\nfield 2\npolygon 1,0 0,1 -1,0 0,-1\nglue 0.0 0.2\nglue 0.1 0.3\ncheck\nend\n",
+        "BadLine",
+        3,
+    ),
+    (
+        "flatsurf 1\nfield 12\npolygon x\nglue 0.0 0.2\nglue 0.1 0.3\ncheck\nend\n",
+        "BadField",
+        0,
+    ),
+    (
+        "flatsurf 1\nfield 2\nglue 0.0 0.2\nglue 0.1 0.3\ncheck\nend\n",
+        "BadLine",
+        5,
+    ),
+    (
+        "flatsurf 1\nfield 2\nglue 0.0 0.2\nglue 0.1 0.3\npolygon 1,0 0,1 -1,0 0,-1\ncheck\nend\n",
+        "read",
+        0,
+    ),
+    (
+        "flatsurf 1\nfield 2\npolygon 1,0 0,1 -1,0 0,-1\nglue 0.0 0.2\npolygon 1,0 0,1 -1,0 0,-1\nglue 0.1 1.3\nglue 1.1 0.3\nglue 1.0 1.2\ncheck\nend\n",
+        "read",
+        0,
+    ),
+    (
+        "\n  \nflatsurf 1\nfield 2\npolygon 1,0 0,1 -1,0 0,-1\nglue 0.0 0.2\nglue 0.1 0.3\ncheck\nend\n",
+        "read",
+        0,
+    ),
+    (
+        "flatsurf 1\nfield 2\npolygon 2,0 1,1r -1,1r -2,0 -1,-1r 1,-1r\nglue 0.1 0.4\nglue 0.2 0.5\nglue 0.0 0.3\ncheck\nend\n",
+        "read",
+        0,
+    ),
+    (
+        "\nflatsurf 1\nfield 2\npolygon 1,0 0,1 -1,0 0,-1\nglue 0.0 0.2\nglue 0.1 0.3\ncheck\nend\n",
+        "read",
+        0,
+    ),
+    (
+        "flatsurf 1\nfield 2\n\npolygon 1,0 0,1 -1,0 0,-1\nglue 0.0 0.2\nglue 0.1 0.3\ncheck\nend\n",
+        "read",
+        0,
+    ),
+    (
+        "flatsurf 1\nfield 2\npolygon 1,0 0,1 -1,0 0,-1\nglue 0.0 0.2\nglue 0.1 0.3\ncheck\nend\ncheck\n",
+        "BadLine",
+        8,
+    ),
+    (
+        "flatsurf 1\nfield 2\npolygon 1,0 0,1 -1,0 0,-1\nglue 0.0 0.2\nglue 0.1 0.3\nend\n",
+        "read",
+        0,
+    ),
+    (
+        "flatsurf 1\nfield 2\npolygon 1,0 0,1 -1,0 0,-1\nglue 0.0 0.2\nglue 0.1 0.3\n",
+        "NoEnd",
+        0,
+    ),
+    ("\n", "BadHeader", 0),
+    (" \t\n\n \n", "BadHeader", 0),
+    ("flatsurf 1\n", "NoEnd", 0),
+    (
+        "flatsurf 1\nfield 2\npolygon 1,0 0,1 -1,0 0,-1\nglue 0.0 0.2\nglue 0.1 0.3\npolygon 1,0 0,1 -1,0 0,-1\ncheck\nend\n",
+        "read",
+        0,
+    ),
+    (
+        " \t\n\nflatsurf 1\nfield 2\n\t\npolygon 1,0 0,1 -1,0 0,-1\nglue 0.0 0.2\nglue 0.1 0.3\ncheck\nend\n  \n",
+        "read",
+        0,
+    ),
+    (
+        "flatsurf 1\nfield 2\npolygon 1,0 0,1 -1,0 0,-1\nglue 0.0 0.2\nglue 0.1 0.3\ncheck\nend",
+        "read",
+        0,
+    ),
+    (
+        "flatsurf 1\nfield 2\npolygon 1,0 0,1 -1,0 0,-1\nglue 0.0 0.2\nglue 0.1 0.3\ncheck\nend\n",
+        "read",
+        0,
+    ),
+    (
+        "flatsurf 1\nfield 2\nsurface a\npolygon 1,0 0,1 -1,0 0,-1\nglue 0.0 0.2\nglue 0.1 0.3\ncheck\nend\n",
+        "BadLine",
+        3,
+    ),
+    (
+        "flatsurf 1\nfield 2\npolygon 1,0 0,1 -1,0 0,-1\nglue 0.0 0.2\nglue 0.1 0.3\ncheck\nend\nend\n",
+        "BadLine",
+        8,
+    ),
+    (
+        "flatsurf 1\nfield 2\npolygon 1,0\nend\ncheck x\n",
+        "BadLine",
+        5,
+    ),
+    (
+        "flatsurf 1\nfield 2\npolygon 1,0\ncheck\npolygon x,0\nend\n",
+        "BadLine",
+        5,
+    ),
+    ("flatsurf 1\nfield 2\npolygon\nend\n\n\n", "read", 0),
+    (
+        "flatsurf 1\nfield 2\npolygon 1,0\ncheck\nbad\n",
+        "BadLine",
+        5,
+    ),
+    ("flatsurf 1\n\n\nfield 12\n\npolygon x,0\n", "BadField", 0),
+    (
+        "flatsurf 1\n \n\t\nfield 2\n\npolygon 1/0,1\n",
+        "BadNumber",
+        6,
+    ),
+    ("flatsurf 1\nfield 2\npolygon\nend", "read", 0),
+    ("flatsurf 1\nfield 2\npolygon\nend ", "read", 0),
+    ("flatsurf 1\nfield 2\npolygon\nend\n\r", "NotAscii", 5),
+    ("flatsurf 1\nfield 2\npolygon\nend\n\r\n", "read", 0),
+    ("\r\n\r\nflatsurf 1\r\nfield 2\r\npolygon\r\nend", "read", 0),
+];
+
+// The same of bytes that are no text.
+static BYTES: [(&[u8], &str, u32); 5] = [
     (
         b"flatsurf 1\nfield 2\npolygon 1,0 0,1 -1,0 0,-1\x80\nglue 0.0 0.2\nglue 0.1 0.3\ncheck\nend\n",
         "NotAscii",
@@ -177,191 +354,15 @@ static TEXTS: [(&[u8], &str, u32); 49] = [
         "NotAscii",
         3,
     ),
-    (b"", "BadHeader", 0),
-    (
-        b"flatsurf 1\nfield 2\npolygon 1,0 0,1 -1,0 0,-1\nglue 0.0 0.2\nglue 0.1 0.3\ncheck\nend\n\n",
-        "read",
-        0,
-    ),
-    (
-        b"flatsurf 1\nfield 2\npolygon 1,0 0,1 -1,0 0,-1\nglue 0.0 0.2\nglue 0.1 0.3\ncheck\nend\n\n \t\n",
-        "read",
-        0,
-    ),
-    (
-        b"\x01\nflatsurf 1\nfield 2\npolygon 1,0 0,1 -1,0 0,-1\nglue 0.0 0.2\nglue 0.1 0.3\ncheck\nend\n",
-        "NotAscii",
-        1,
-    ),
-    (
-        b"  flatsurf \t 1 \t\n  field \t 2 \t\n  polygon \t 1,0 \t 0,1 \t -1,0 \t 0,-1 \t\n  glue \t 0.0 \t 0.2 \t\n  glue \t 0.1 \t 0.3 \t\n  check \t\n  end \t\n",
-        "read",
-        0,
-    ),
-    (
-        b"flatsurf 1\nfield 2\npolygon 1,0 0,1 -1,0 0,-1\nglue 0.0 0.2\nglue 0.1 0.3\ncheck\nend\r",
-        "NotAscii",
-        7,
-    ),
-    (
-        b"flatsurf 1\r\nfield 2\r\npolygon 1,0 0,1 -1,0 0,-1\r\nglue 0.0 0.2\r\nglue 0.1 0.3\r\ncheck\r\nend\r\n",
-        "read",
-        0,
-    ),
-    (
-        b"flatsurf 1\nfield 2\npolygon 1,0 0,1 -1,0 0,-1\ncheck\nglue 0.0 0.2\nglue 0.1 0.3\nend\n",
-        "BadLine",
-        5,
-    ),
-    (
-        b"flatsurf 1\nfield 2\ncheck\npolygon 1,0 0,1 -1,0 0,-1\nglue 0.0 0.2\nglue 0.1 0.3\ncheck\nend\n",
-        "BadLine",
-        3,
-    ),
-    (
-        b"flatsurf 1\nfield 2\n# a comment\npolygon 1,0 0,1 -1,0 0,-1\nglue 0.0 0.2\nglue 0.1 0.3\ncheck\nend\n",
-        "BadLine",
-        3,
-    ),
-    (b"flatsurf 1\nfield 2\nend\n", "BadLine", 3),
-    (
-        b"flatsurf 1\npolygon 1,0 0,1 -1,0 0,-1\nfield 2\nglue 0.0 0.2\nglue 0.1 0.3\ncheck\nend\n",
-        "BadLine",
-        2,
-    ),
-    (
-        b"flatsurf 1\nfield 2\nfield 2\npolygon 1,0 0,1 -1,0 0,-1\nglue 0.0 0.2\nglue 0.1 0.3\ncheck\nend\n",
-        "BadLine",
-        3,
-    ),
-    (
-        b"flatsurf 1\nfield 12\npolygon x\nglue 0.0 0.2\nglue 0.1 0.3\ncheck\nend\n",
-        "BadField",
-        0,
-    ),
     (
         b"flatsurf 1\nfield 2\npolygon 1,0 0,1 -1,0 0,-1\nglue 0.0 0.2\nglue 0.1 0.3\ncheck\nend\n\xff\n",
         "NotAscii",
         8,
     ),
     (
-        b"flatsurf 1\nfield 2\nglue 0.0 0.2\nglue 0.1 0.3\ncheck\nend\n",
-        "BadLine",
-        5,
-    ),
-    (
-        b"flatsurf 1\nfield 2\nglue 0.0 0.2\nglue 0.1 0.3\npolygon 1,0 0,1 -1,0 0,-1\ncheck\nend\n",
-        "read",
-        0,
-    ),
-    (
-        b"flatsurf 1\nfield 2\npolygon 1,0 0,1 -1,0 0,-1\nglue 0.0 0.2\npolygon 1,0 0,1 -1,0 0,-1\nglue 0.1 1.3\nglue 1.1 0.3\nglue 1.0 1.2\ncheck\nend\n",
-        "read",
-        0,
-    ),
-    (
-        b"\n  \nflatsurf 1\nfield 2\npolygon 1,0 0,1 -1,0 0,-1\nglue 0.0 0.2\nglue 0.1 0.3\ncheck\nend\n",
-        "read",
-        0,
-    ),
-    (
-        b"flatsurf 1\nfield 2\npolygon 2,0 1,1r -1,1r -2,0 -1,-1r 1,-1r\nglue 0.1 0.4\nglue 0.2 0.5\nglue 0.0 0.3\ncheck\nend\n",
-        "read",
-        0,
-    ),
-    (
-        b"\nflatsurf 1\nfield 2\npolygon 1,0 0,1 -1,0 0,-1\nglue 0.0 0.2\nglue 0.1 0.3\ncheck\nend\n",
-        "read",
-        0,
-    ),
-    (
-        b"flatsurf 1\nfield 2\n\npolygon 1,0 0,1 -1,0 0,-1\nglue 0.0 0.2\nglue 0.1 0.3\ncheck\nend\n",
-        "read",
-        0,
-    ),
-    (
-        b"flatsurf 1\nfield 2\npolygon 1,0 0,1 -1,0 0,-1\nglue 0.0 0.2\nglue 0.1 0.3\ncheck\nend\ncheck\n",
-        "BadLine",
-        8,
-    ),
-    (
-        b"flatsurf 1\nfield 2\npolygon 1,0 0,1 -1,0 0,-1\nglue 0.0 0.2\nglue 0.1 0.3\nend\n",
-        "read",
-        0,
-    ),
-    (
-        b"flatsurf 1\nfield 2\npolygon 1,0 0,1 -1,0 0,-1\nglue 0.0 0.2\nglue 0.1 0.3\n",
-        "NoEnd",
-        0,
-    ),
-    (b"\n", "BadHeader", 0),
-    (b" \t\n\n \n", "BadHeader", 0),
-    (b"flatsurf 1\n", "NoEnd", 0),
-    (
-        b"flatsurf 1\nfield 2\npolygon 1,0 0,1 -1,0 0,-1\nglue 0.0 0.2\nglue 0.1 0.3\npolygon 1,0 0,1 -1,0 0,-1\ncheck\nend\n",
-        "read",
-        0,
-    ),
-    (
-        b" \t\n\nflatsurf 1\nfield 2\n\t\npolygon 1,0 0,1 -1,0 0,-1\nglue 0.0 0.2\nglue 0.1 0.3\ncheck\nend\n  \n",
-        "read",
-        0,
-    ),
-    (
-        b"flatsurf 1\nfield 2\npolygon 1,0 0,1 -1,0 0,-1\nglue 0.0 0.2\nglue 0.1 0.3\ncheck\nend",
-        "read",
-        0,
-    ),
-    (
-        b"flatsurf 1\nfield 2\npolygon 1,0 0,1 -1,0 0,-1\nglue 0.0 0.2\nglue 0.1 0.3\ncheck\nend\n",
-        "read",
-        0,
-    ),
-    (
-        b"flatsurf 1\nfield 2\nsurface a\npolygon 1,0 0,1 -1,0 0,-1\nglue 0.0 0.2\nglue 0.1 0.3\ncheck\nend\n",
-        "BadLine",
-        3,
-    ),
-    (
-        b"flatsurf 1\nfield 2\npolygon 1,0 0,1 -1,0 0,-1\nglue 0.0 0.2\nglue 0.1 0.3\ncheck\nend\nend\n",
-        "BadLine",
-        8,
-    ),
-    (
-        b"flatsurf 1\nfield 2\npolygon 1,0\nend\ncheck x\n",
-        "BadLine",
-        5,
-    ),
-    (
-        b"flatsurf 1\nfield 2\npolygon 1,0\ncheck\npolygon x,0\nend\n",
-        "BadLine",
-        5,
-    ),
-    (
         b"flatsurf 1\nfield 2\npolygon 1,x\ncheck\nend\n\x80\n",
         "BadNumber",
         3,
-    ),
-    (b"flatsurf 1\nfield 2\npolygon\nend\n\n\n", "read", 0),
-    (
-        b"flatsurf 1\nfield 2\npolygon 1,0\ncheck\nbad\n",
-        "BadLine",
-        5,
-    ),
-    (b"flatsurf 1\n\n\nfield 12\n\npolygon x,0\n", "BadField", 0),
-    (
-        b"flatsurf 1\n \n\t\nfield 2\n\npolygon 1/0,1\n",
-        "BadNumber",
-        6,
-    ),
-    (b"flatsurf 1\nfield 2\npolygon\nend", "read", 0),
-    (b"flatsurf 1\nfield 2\npolygon\nend ", "read", 0),
-    (b"flatsurf 1\nfield 2\npolygon\nend\n\r", "NotAscii", 5),
-    (b"flatsurf 1\nfield 2\npolygon\nend\n\r\n", "read", 0),
-    (
-        b"\r\n\r\nflatsurf 1\r\nfield 2\r\npolygon\r\nend",
-        "read",
-        0,
     ),
 ];
 
@@ -407,21 +408,26 @@ static EXCHANGED: [(&str, u32); 6] = [
     ("BadLine", 7),
 ];
 
-// The result for a text: the name of the fault and the line that it names, or 0.
-fn told(answer: &Result<Job, JobStop>) -> (&'static str, u32) {
+// The name of a fault, and the line that it names, or 0.
+fn of_fault(fault: Fault) -> Told {
+    match fault {
+        Fault::NotAscii { line } => ("NotAscii", line),
+        Fault::BadHeader => ("BadHeader", 0),
+        Fault::BadLine { line } => ("BadLine", line),
+        Fault::BadNumber { line } => ("BadNumber", line),
+        Fault::BadField => ("BadField", 0),
+        Fault::TooMany { line } => ("TooMany", line),
+        Fault::NoEnd => ("NoEnd", 0),
+        Fault::Wide { line } => ("Wide", line),
+        _ => ("another fault", 0),
+    }
+}
+
+// The result for a text: `read`, or what stopped its reading.
+fn told(answer: &Result<Job, JobStop>) -> Told {
     match answer {
         Ok(_) => ("read", 0),
-        Err(JobStop::Fault(fault)) => match *fault {
-            Fault::NotAscii { line } => ("NotAscii", line),
-            Fault::BadHeader => ("BadHeader", 0),
-            Fault::BadLine { line } => ("BadLine", line),
-            Fault::BadNumber { line } => ("BadNumber", line),
-            Fault::BadField => ("BadField", 0),
-            Fault::TooMany { line } => ("TooMany", line),
-            Fault::NoEnd => ("NoEnd", 0),
-            Fault::Wide { line } => ("Wide", line),
-            _ => ("another fault", 0),
-        },
+        Err(JobStop::Fault(fault)) => of_fault(*fault),
         Err(JobStop::NoMemory) => ("no memory", 0),
     }
 }
@@ -445,7 +451,7 @@ fn changed(alloc: Global, from: usize, to: usize, text: &[u8]) -> Result<Vec<u8>
 }
 
 // The result for a text.
-fn read(alloc: Global, text: &[u8]) -> (&'static str, u32) {
+fn read(alloc: Global, text: &[u8]) -> Told {
     if text.len() > 1_048_576 {
         return ("too long", 0);
     }
@@ -453,8 +459,8 @@ fn read(alloc: Global, text: &[u8]) -> (&'static str, u32) {
 }
 
 // That a text gives this result.
-fn expect(rt: &impl Abort, alloc: Global, text: &[u8], expected: (&'static str, u32)) {
-    assert_eq!(rt; read(alloc, text), expected, "{text:?}");
+fn expect(rt: &impl Abort, alloc: Global, text: &[u8], expected: Told) {
+    assert!(rt; read(alloc, text) == expected, "{text:?}");
 }
 
 // That the square with this text in place of a line gives a result of this name, at that line if
@@ -471,7 +477,7 @@ fn expect_change(
     prefix.push(b'\n')?;
     let job = with_lines(prefix, number, 7)?;
     let (answer, line) = read(alloc, job.as_slice());
-    assert_eq!(rt; answer, name, "{change}");
+    assert!(rt; answer == name, "{change}");
     assert!(rt; line == 0 || line as usize == number, "{change}");
     Ok(())
 }
@@ -487,7 +493,14 @@ fn changed_lines(rt: HostRuntime) -> Result<(), Fail> {
 #[test]
 fn whole_texts(rt: HostRuntime) {
     for (text, name, line) in TEXTS.iter() {
-        expect(&rt, rt.alloc(), text, (*name, *line));
+        expect(&rt, rt.alloc(), text.as_bytes(), (name, *line));
+    }
+}
+
+#[test]
+fn whole_bytes(rt: HostRuntime) {
+    for (bytes, name, line) in BYTES.iter() {
+        expect(&rt, rt.alloc(), bytes, (name, *line));
     }
 }
 
@@ -546,7 +559,7 @@ fn exchanged_lines(rt: HostRuntime) -> Result<(), Fail> {
 }
 
 // The result for a line cut short, by the letter of the table, or this one where it has none.
-fn of_letter(letter: u8, number: u32, nothing: &'static str) -> (&'static str, u32) {
+fn of_letter(letter: u8, number: u32, nothing: &'static str) -> Told {
     match letter {
         b'h' => ("BadHeader", 0),
         b'l' => ("BadLine", number),
@@ -607,56 +620,50 @@ fn lines_cut_short_at_each_byte(rt: HostRuntime) -> Result<(), Fail> {
 // A header and a field, then two texts, the second of them so many times, and a third.
 fn repeated(
     alloc: Global,
-    first: &[u8],
-    again: &[u8],
+    first: &str,
+    again: &str,
     times: usize,
-    last: &[u8],
+    last: &str,
 ) -> Result<Vec<u8>, AllocError> {
     let mut text = with_lines(Vec::new(alloc), 0, 2)?;
-    text.extend_from_slice(first)?;
+    text.extend_from_slice(first.as_bytes())?;
     for _ in 0..times {
-        text.extend_from_slice(again)?;
+        text.extend_from_slice(again.as_bytes())?;
     }
-    text.extend_from_slice(last)?;
+    text.extend_from_slice(last.as_bytes())?;
     Ok(text)
 }
 
 // Texts as `repeated` makes them, and their results.
-static LIMITS: [(&[u8], &[u8], usize, &[u8], (&str, u32)); 12] = [
-    (b"", b"polygon 1,0\n", 256, b"end", ("read", 0)),
-    (b"", b"polygon 1,0\n", 257, b"end", ("TooMany", 259)),
+static LIMITS: [(&str, &str, usize, &str, (&str, u32)); 12] = [
+    ("", "polygon 1,0\n", 256, "end", ("read", 0)),
+    ("", "polygon 1,0\n", 257, "end", ("TooMany", 259)),
+    ("", "polygon 1,0\n", 256, "polygon x,0\n", ("TooMany", 259)),
+    ("", "polygon 1,0\n", 256, "polygon 1\n", ("BadLine", 259)),
+    ("polygon", " 1,0", 1024, "\nend", ("read", 0)),
+    ("polygon", " 1,0", 1025, "\nend", ("TooMany", 3)),
+    ("polygon x,0", " 1,0", 1024, "\nend", ("TooMany", 3)),
     (
-        b"",
-        b"polygon 1,0\n",
-        256,
-        b"polygon x,0\n",
-        ("TooMany", 259),
-    ),
-    (b"", b"polygon 1,0\n", 256, b"polygon 1\n", ("BadLine", 259)),
-    (b"polygon", b" 1,0", 1024, b"\nend", ("read", 0)),
-    (b"polygon", b" 1,0", 1025, b"\nend", ("TooMany", 3)),
-    (b"polygon x,0", b" 1,0", 1024, b"\nend", ("TooMany", 3)),
-    (
-        b"polygon 1,0\npolygon",
-        b" 1,0",
+        "polygon 1,0\npolygon",
+        " 1,0",
         1023,
-        b"\npolygon\nend",
+        "\npolygon\nend",
         ("read", 0),
     ),
     (
-        b"polygon 1,0\npolygon",
-        b" 1,0",
+        "polygon 1,0\npolygon",
+        " 1,0",
         1023,
-        b"\npolygon x,0\n",
+        "\npolygon x,0\n",
         ("TooMany", 5),
     ),
-    (b"polygon\n", b"check\n", 256, b"end", ("read", 0)),
-    (b"polygon\n", b"check\n", 257, b"end", ("TooMany", 260)),
+    ("polygon\n", "check\n", 256, "end", ("read", 0)),
+    ("polygon\n", "check\n", 257, "end", ("TooMany", 260)),
     (
-        b"polygon\n",
-        b"check\n",
+        "polygon\n",
+        "check\n",
         256,
-        b"check 1\nend",
+        "check 1\nend",
         ("BadLine", 260),
     ),
 ];
@@ -673,7 +680,7 @@ fn limits(rt: HostRuntime) -> Result<(), Fail> {
 #[test]
 fn glue_lines_without_limit(rt: HostRuntime) -> Result<(), Fail> {
     let alloc = rt.alloc();
-    let glues = repeated(alloc, b"polygon\n", b"glue 0.0 0.0\n", 3000, b"end")?;
+    let glues = repeated(alloc, "polygon\n", "glue 0.0 0.0\n", 3000, "end")?;
     expect(&rt, alloc, glues.as_slice(), ("read", 0));
     Ok(())
 }
@@ -681,99 +688,8 @@ fn glue_lines_without_limit(rt: HostRuntime) -> Result<(), Fail> {
 #[test]
 fn most_bytes(rt: HostRuntime) -> Result<(), Fail> {
     let alloc = rt.alloc();
-    let spaces = repeated(alloc, b"polygon", b" ", 1_048_576 - 30, b"\nend")?;
-    assert_eq!(rt; spaces.len(), 1_048_576);
+    let spaces = repeated(alloc, "polygon", " ", 1_048_576 - 30, "\nend")?;
+    assert!(rt; spaces.len() == 1_048_576);
     expect(&rt, alloc, spaces.as_slice(), ("read", 0));
-    Ok(())
-}
-
-// The fraction that a text spells.
-fn number(rt: &impl Abort, text: &str) -> Frac {
-    match read_number(text.as_bytes()) {
-        Ok(x) => x,
-        Err(_) => panic!(rt; "{text}"),
-    }
-}
-
-#[test]
-fn what_a_job_says(rt: HostRuntime) -> Result<(), Fail> {
-    let alloc = rt.alloc();
-    let text =
-        b"\nflatsurf 1\r\n\tfield 0005 \nglue 0007.0 1.0032\n\npolygon 1/2,-1+2/4r 00,1r\npolygon\nglue 0.1 0.1\ncheck\ncheck\nend";
-    let Job {
-        field,
-        form,
-        commands,
-    } = read_job(alloc, text).ok().ok_or("no job")?;
-    assert_eq!(rt; field.d(), 5);
-    assert!(rt; matches!(commands.as_slice(), [Command::Check, Command::Check]));
-    let Form::Polygons(shape) = form;
-    assert!(rt; !shape.straight);
-    let polygons = shape.polygons.as_slice();
-    assert_eq!(rt; polygons.len(), 2);
-    assert_eq!(rt; polygons[1].len(), 0);
-    let sides = polygons[0].as_slice();
-    assert_eq!(rt; sides.len(), 2);
-    for (side, (x, y)) in sides.iter().zip([("1/2", "-1+1/2r"), ("0", "1r")]) {
-        assert_eq!(rt; side.x, number(&rt, x));
-        assert_eq!(rt; side.y, number(&rt, y));
-    }
-    let glues = [
-        Glue {
-            line: 4,
-            one: Corner::new(7, 0),
-            two: Corner::new(1, 32),
-        },
-        Glue {
-            line: 8,
-            one: Corner::new(0, 1),
-            two: Corner::new(0, 1),
-        },
-    ];
-    assert!(rt; shape.glues.as_slice() == glues.as_slice());
-    Ok(())
-}
-
-#[test]
-fn sites_as_they_are_printed(rt: HostRuntime) -> Result<(), Fail> {
-    let rows = [
-        (
-            Site::Scale {
-                polygon: 0,
-                side: 2,
-                place: 1,
-            },
-            "scale 0 2 1",
-        ),
-        (
-            Site::Close {
-                polygon: 255,
-                side: 1023,
-                place: 2,
-            },
-            "close 255 1023 2",
-        ),
-        (
-            Site::Corner {
-                polygon: 10,
-                side: 0,
-                place: 3,
-            },
-            "corner 10 0 3",
-        ),
-        (
-            Site::Area {
-                polygon: 3,
-                corner: 20,
-                place: 4,
-            },
-            "area 3 20 4",
-        ),
-        (Site::AreaScale { place: 2 }, "areascale 2"),
-    ];
-    for (site, text) in rows {
-        let printed = print_site(rt.alloc(), &site).ok().ok_or("no memory")?;
-        assert_eq!(rt; printed.as_str(), text);
-    }
     Ok(())
 }

@@ -1,0 +1,11 @@
+// Tests of public calls of fs_plane and fs_gluing: tables of arguments and results.
+#![tactic(auto)]
+
+#[cfg(test)]
+mod common;
+#[cfg(test)]
+mod corners;
+#[cfg(test)]
+mod surfaces;
+#[cfg(test)]
+mod vectors;
