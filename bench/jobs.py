@@ -1,12 +1,11 @@
 """Makes large jobs in a folder, and times a program on each: jobs.py PROGRAM FOLDER."""
 
 import os
-import subprocess
 import sys
-import time
+
+from timing import least_seconds, memory
 
 MOST = 1048576
-ROUNDS = 5
 
 
 def chain(polygons, wide):
@@ -49,29 +48,13 @@ def jobs():
     return found
 
 
-def seconds(program, job):
-    """How long the program takes on a job, which it has to answer whole."""
-    with open(job) as text:
-        start = time.perf_counter()
-        subprocess.run([program], stdin=text, stdout=subprocess.DEVNULL, check=True)
-        return time.perf_counter() - start
-
-
-def memory(program, job):
-    """The most memory that the program held, in kB."""
-    words = ["/usr/bin/time", "-f", "%M", program]
-    with open(job) as text:
-        ran = subprocess.run(words, stdin=text, stdout=subprocess.DEVNULL, stderr=subprocess.PIPE, check=True)
-    return int(ran.stderr)
-
-
 def main(program, folder):
     for name, text in sorted(jobs().items()):
         job = f"{folder}/{name}.flat"
         with open(job, "w") as it:
             it.write(text)
-        size, least = os.path.getsize(job), min(seconds(program, job) for _ in range(ROUNDS))
-        print(f"{name:16} {size:8d} bytes {least:8.4f} s {least / size * 1e9:8.1f} ns/byte {memory(program, job):8d} kB at most")
+        size, least = os.path.getsize(job), least_seconds([program], job)
+        print(f"{name:16} {size:8d} bytes {least:8.4f} s {least / size * 1e9:8.1f} ns/byte {memory([program], job):8d} kB at most")
 
 
 main(*sys.argv[1:])

@@ -1,5 +1,5 @@
-# Functions of the scripts in this folder: a temporary folder, which goes in the end, programs that are
-# built in a copy of the repository, and the least of three times.
+# Functions of the scripts in this folder: a temporary folder, which goes in the end, the program `flat`,
+# programs that are built in a copy of the repository, and the least of three times.
 set -euo pipefail
 here=$(cd "$(dirname "$0")" && pwd)
 top=$(dirname "$here")
@@ -15,6 +15,15 @@ need() {
             exit 2
         }
     done
+}
+
+# Stops where bin/flat has no program or gives another answer to the square.
+program() {
+    local status=0
+    "$top/bin/flat" <"$top/examples/square.flat" >"$work/square.out" || status=$?
+    # (70 is bin/flat's own: it has said why there is no program)
+    [ "$status" != 70 ] || exit 1
+    cmp "$work/square.out" "$top/examples/square.out" || exit 1
 }
 
 # Proves and builds NAME.rattle over some crates, in a copy of the repository that has only them and those

@@ -7,7 +7,7 @@ use Rattle.fs_cli.specs.declared.outcome.Status.{Status}
 use Rattle.fs_cli.specs.Answer.{AnswersJob, too_long, no_job, not_built, answered, draft_shape}
 use Rattle.fs_cli.proofs.AnsweredUnique.{JobLaw}
 use Rattle.fs_cli.proofs.SurfaceExists.{surface_of_job}
-use Rattle.fs_cli.proofs.CommandTexts.{answers_all_exists}
+use Rattle.fs_cli.proofs.CommandTexts.{commands_exist}
 
 module _ (law : JobLaw) where
   -- bytes have an answer
@@ -18,7 +18,7 @@ module _ (law : JobLaw) where
       (λ test first. none _ _ (not_built draft test few reads first refl refl))
       (λ all.
       let s = surface_of_job bytes draft reads all in
-      answers_all_exists s.0 budget s.1 draft.commands (λ output partial texts. none _ _ (answered draft s.0 partial few reads s.1 s.2 all texts refl))))
+      commands_exist s.0 budget s.1 draft.commands (λ output result texts. none _ _ (answered draft s.0 few reads s.1 s.2 all texts))))
       (λ fault at. none _ _ (no_job fault few at refl refl)))
     where
       by_length : ¬ (length bytes ≤ most_bytes) → ⊥

@@ -3,9 +3,10 @@ use Rattle.std.proofs.Common.{◌≡◌, ◌≢◌, ℕ, ◌+◌, ◌<◌, ◌�
 use Rattle.std.specs.Io.KnownBytes.{Consumes, Appends, IsAtEnd}
 use Rattle.std.specs.List.{AllByRecursion}
 use Rattle.std.proofs.KnownBytes.{Appends-nil}
+use Rattle.fs_lists.specs.First.{IsFirstWithout}
 use Rattle.fs_io.specs.Whole.{most_bytes}
 use Rattle.fs_gluing.specs.declared.faults.Fault.{Fault}
-use Rattle.fs_gluing.specs.declared.faults.Fault.TheVariants.{TooLong}
+use Rattle.fs_gluing.specs.declared.faults.Fault.TheVariants.{NoSuchSide, TooLong}
 use Rattle.fs_gluing.specs.declared.faults.BuildStop.{BuildStop}
 use Rattle.fs_gluing.specs.declared.faults.BuildStop.TheVariants as stops
 use Rattle.fs_gluing.specs.FirstFault.{Test, PassesOf, tests_of, IsFirstFailure, IsBuildResult, stop_of}
@@ -19,13 +20,14 @@ use Rattle.fs_job.specs.declared.job.JobStop.{JobStop}
 use Rattle.fs_job.specs.declared.job.JobStop.TheVariants as job_stops
 use Rattle.fs_job.specs.Draft.{Draft}
 use Rattle.fs_job.specs.Grammar.{IsJob, IsFirstFault}
-use Rattle.fs_report.specs.Text.{fault_line, Answers}
+use Rattle.fs_report.specs.Text.{fault_line, Answers, HasCorner}
 use Rattle.fs_report.proofs.AnswersUnique.{answer_unique}
 use Rattle.fs_cli.specs.declared.outcome.Status.{Status}
 use Rattle.fs_cli.specs.declared.outcome.Status.TheVariants as status
-use Rattle.fs_cli.specs.Answer.{AnswersJob, IsAnswered, too_long, no_job, not_built, answered, BeginsEach, draft_shape, stop_line, stop_status, AnswersAll, status_of, IsWhole, IsBroken}
+use Rattle.fs_cli.specs.Answer.{AnswersJob, AnswersCommands, no_such_corner, each_answered, stated_line, IsAnswered, too_long, no_job, not_built, answered, BeginsEach, draft_shape, stop_line, stop_status, AnswersAll, status_of, IsWhole, IsBroken}
 use Rattle.fs_cli.specs.Words.{GiveBudget}
 use Rattle.fs_cli.specs.Writing.{Writes, IsThisText, HasStatus}
+use Rattle.fs_cli.proofs.CommandTexts.{commands_unique, only_each}
 use Rattle.fs_cli.proofs.WordBudgets.{budget_unique}
 use Rattle.fs_cli.proofs.AnsweredUnique.{JobLaw, only_long, only_fault, only_stop, only_texts}
 
@@ -108,8 +110,25 @@ module _ (result : Status) (held held' : Option (List ℕ)) (faults faults' : �
 
   -- equal commands
   pub writes_commands : (s : GluedPolygons) (budget : ℕ) (commands commands' : List Command) → commands ≡ commands'
-      → Writes (HasStatus (AnswersAll s budget commands)) result held held' faults faults' → Writes (HasStatus (AnswersAll s budget commands')) result held held' faults faults'
-  writes_commands s budget commands commands' e = subst (λ (cs : List Command). Writes (HasStatus (AnswersAll s budget cs)) result held held' faults faults') e
+      → Writes (AnswersCommands s budget commands) result held held' faults faults' → Writes (AnswersCommands s budget commands') result held held' faults faults'
+  writes_commands s budget commands commands' e = subst (λ (cs : List Command). Writes (AnswersCommands s budget cs) result held held' faults faults') e
+
+  -- commands of which one names a corner that isn't there
+  pub writes_missing : (s : GluedPolygons) (budget : ℕ) (commands : List Command) (command : Command) (line : ℕ) → IsSurface s → IsFirstWithout (HasCorner s) commands command → line ≡ stated_line command
+      → Writes (IsThisText (fault_line (NoSuchSide line)) status.Refused) result held held' faults faults' → Writes (AnswersCommands s budget commands) result held held' faults faults'
+  writes_missing s budget commands command line surface first is =
+      let means : AnswersCommands s budget commands (fault_line (NoSuchSide line)) status.Refused =
+      no_such_corner command first refl (ap (λ (n : ℕ). fault_line (NoSuchSide n)) is) in
+      writes_just (AnswersCommands s budget commands) (fault_line (NoSuchSide line)) status.Refused means
+      (λ output r other. commands_unique s budget surface commands output (fault_line (NoSuchSide line)) r status.Refused other means)
+
+  -- commands that are all answered
+  pub writes_each : (s : GluedPolygons) (budget : ℕ) (commands : List Command) → IsSurface s → AllByRecursion (HasCorner s) commands
+      → Writes (HasStatus (AnswersAll s budget commands)) result held held' faults faults' → Writes (AnswersCommands s budget commands) result held held' faults faults'
+  writes_each s budget commands surface all =
+      writes_meant (HasStatus (AnswersAll s budget commands)) (AnswersCommands s budget commands)
+      (λ output r means. each_answered means.0 all means.1 means.2)
+      (λ output r means. only_each s budget surface commands all output r means)
 
   -- the text of a command
   pub writes_command : (s : GluedPolygons) (budget : ℕ) (command : Command) (text : List ℕ) (partial : Bool) (meant : Status) → IsSurface s → Answers s budget command text partial → meant ≡ status_of partial
@@ -157,10 +176,10 @@ module _ (result : Status) (held held' : Option (List ℕ)) (faults faults' : �
     -- a job whose surface is built
     pub writes_texts : (draft : Draft) (s : GluedPolygons) → IsJob bytes draft → IsSurface s → HasShape draft.d (draft_shape draft) s
         → AllByRecursion (PassesOf draft.d (draft_shape draft)) (tests_of (draft_shape draft))
-        → Writes (HasStatus (AnswersAll s budget draft.commands)) result held held' faults faults' → Writes (AnswersJob budget bytes) result held held' faults faults'
+        → Writes (AnswersCommands s budget draft.commands) result held held' faults faults' → Writes (AnswersJob budget bytes) result held held' faults faults'
     writes_texts draft s reads surface shape all =
-        writes_meant (HasStatus (AnswersAll s budget draft.commands)) (AnswersJob budget bytes)
-        (λ output r means. answered draft s means.0 few reads surface shape all means.1 means.2)
+        writes_meant (AnswersCommands s budget draft.commands) (AnswersJob budget bytes)
+        (λ output r means. answered draft s few reads surface shape all means)
         (only_texts law budget bytes draft s few reads shape all)
 
   -- the answer to words that give the budget

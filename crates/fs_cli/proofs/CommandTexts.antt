@@ -4,14 +4,19 @@ use Rattle.std.specs.Io.KnownBytes.{Appends}
 use Rattle.std.proofs.KnownBytes.{Appends-trans}
 use Rattle.std.proofs.Math.Bool.{or_assoc, or-false}
 use Rattle.std.proofs.lemmas.List.{take_more, drop_more, take_all}
+use Rattle.std.specs.List.{AllByRecursion}
+use Rattle.fs_lists.specs.First.{IsFirstWithout}
+use Rattle.fs_lists.proofs.All.{All-append}
+use Rattle.fs_lists.proofs.First.{first_not_all, first_unique, first_or_all}
 use Rattle.fs_io.specs.Faults.{Rose}
 use Rattle.fs_gluing.specs.Surface.{GluedPolygons, IsSurface}
 use Rattle.fs_job.specs.declared.job.Command.{Command}
-use Rattle.fs_report.specs.Text.{Answers}
+use Rattle.fs_gluing.specs.declared.faults.Fault.TheVariants.{NoSuchSide}
+use Rattle.fs_report.specs.Text.{fault_line, Answers, HasCorner}
 use Rattle.fs_report.proofs.AnswersUnique.{answer_unique, answer_exists}
 use Rattle.fs_cli.specs.declared.outcome.Status.{Status}
 use Rattle.fs_cli.specs.declared.outcome.Status.TheVariants as status
-use Rattle.fs_cli.specs.Answer.{IsWhole, IsBroken, AnswersAll, status_of, BeginsEach}
+use Rattle.fs_cli.specs.Answer.{IsWhole, IsBroken, AnswersAll, AnswersCommands, no_such_corner, each_answered, stated_line, status_of, BeginsEach}
 use Rattle.fs_cli.specs.Writing.{Writes, HasStatus}
 
 -- ---- the status of a text
@@ -64,12 +69,33 @@ module _ (s : GluedPolygons) (budget : ℕ) (surface : IsSurface s) where
       let other = answers_all_unique commands a.rest b.rest a.rest_partial b.rest_partial a.other b.other in
       (cc, cc)
 
-  -- commands have a text
-  pub answers_all_exists : (commands : List Command) → ((output : List ℕ) (partial : Bool) → ¬ AnswersAll s budget commands output partial) → ⊥
-  answers_all_exists [] none = none [] false (refl, refl)
-  answers_all_exists (command ∷ commands) none =
-      answer_exists s budget command surface.surface (λ m p one. answers_all_exists commands (λ n q other. none (m ++ n) (p || q)
+  -- commands have a text, where the surface has the corners that they name
+  pub answers_all_exists : (commands : List Command) → AllByRecursion (HasCorner s) commands → ((output : List ℕ) (partial : Bool) → ¬ AnswersAll s budget commands output partial) → ⊥
+  answers_all_exists [] all none = none [] false (refl, refl)
+  answers_all_exists (command ∷ commands) all none =
+      answer_exists s budget command surface all.0 (λ m p one. answers_all_exists commands all.1 (λ n q other. none (m ++ n) (p || q)
       (record { prefix = m; rest = n; prefix_partial = p; rest_partial = q; one = one; other = other; whole = refl; kind = refl })))
+
+  -- commands have one answer at most
+  pub commands_unique : (commands : List Command) (m n : List ℕ) (r q : Status) → AnswersCommands s budget commands m r → AnswersCommands s budget commands n q → (m ≡ n) × (r ≡ q)
+  commands_unique commands m n r q (no_such_corner command first is text) (no_such_corner other first' is' text') =
+      (text ∙ (ap (λ (c : Command). fault_line (NoSuchSide (stated_line c))) (first_unique (HasCorner s) commands command other first first') ∙ sym text'), is ∙ sym is')
+  commands_unique commands m n r q (no_such_corner command first is text) (each_answered p all texts is') = absurd (first_not_all (HasCorner s) commands command first all)
+  commands_unique commands m n r q (each_answered p all texts is) (no_such_corner command first is' text') = absurd (first_not_all (HasCorner s) commands command first all)
+  commands_unique commands m n r q (each_answered p all texts is) (each_answered p' all' texts' is') =
+      let one = answers_all_unique commands m n p p' texts texts' in
+      (one.0, is ∙ (ap status_of one.1 ∙ sym is'))
+
+  -- where the surface has all corners, each command is answered
+  pub only_each : (commands : List Command) → AllByRecursion (HasCorner s) commands → (output : List ℕ) (r : Status) → AnswersCommands s budget commands output r → HasStatus (AnswersAll s budget commands) output r
+  only_each commands all output r (no_such_corner command first is text) = absurd (first_not_all (HasCorner s) commands command first all)
+  only_each commands all output r (each_answered p all' texts is) = (p, texts, is)
+
+  -- commands have an answer
+  pub commands_exist : (commands : List Command) → ((output : List ℕ) (r : Status) → ¬ AnswersCommands s budget commands output r) → ⊥
+  commands_exist commands none =
+      first_or_all (HasCorner s) commands (λ command first. none _ _ (no_such_corner command first refl refl))
+      (λ all. answers_all_exists commands all (λ output partial texts. none _ _ (each_answered partial all texts refl)))
 
   -- one command more, after the others
   answers_all_append : (commands : List Command) (command : Command) (m n : List ℕ) (p q : Bool) → AnswersAll s budget commands m p → Answers s budget command n q
@@ -119,6 +145,12 @@ module _ (s : GluedPolygons) (budget : ℕ) (surface : IsSurface s) where
         )
 
   -- ---- a call for each command
+
+  -- what was written for the command at an index
+  pub written_at : (commands : List Command) (i : ℕ) (x : Command) (result : Status) (held held' : Option (List ℕ)) (faults faults' : ℕ) → x ≡ get_or commands i x
+      → Writes (HasStatus (Answers s budget x)) result held held' faults faults' → Writes (HasStatus (Answers s budget (get_or commands i x))) result held held' faults faults'
+  written_at commands i x result held held' faults faults' e =
+      subst (λ (command : Command). Writes (HasStatus (Answers s budget command)) result held held' faults faults') e
 
   module _ (commands : List Command) where
     module _ (i : ℕ) (d : Command) (h : i < length commands) (held before after : Option (List ℕ)) (result so_far : Status) (faults' faults'' : ℕ)
@@ -188,3 +220,28 @@ module _ (s : GluedPolygons) (budget : ℕ) (surface : IsSurface s) where
           kept = λ _. same;
           never_falls = omega arith;
         }
+
+-- ---- the corners that commands name
+
+module _ (s : GluedPolygons) (commands : List Command) (i : ℕ) (x : Command) (h : i < length commands) (is : x ≡ get_or commands i x) where
+  -- those of one command more
+  pub corners_more : AllByRecursion (HasCorner s) (take i commands) → HasCorner s x → AllByRecursion (HasCorner s) (take (i + 1) commands)
+  corners_more all here =
+      subst (AllByRecursion (HasCorner s)) (sym (take_more commands i x h))
+      (All-append (HasCorner s) (take i commands) (get_or commands i x ∷ []) all (subst (HasCorner s) is here, tt))
+
+  -- the first that isn't there
+  pub first_missing : AllByRecursion (HasCorner s) (take i commands) → ¬ HasCorner s x → IsFirstWithout (HasCorner s) commands x
+  first_missing all missing = record {
+    before = take i commands;
+    after = drop (i + 1) commands;
+    whole =
+        sym (take-append-drop i commands) ∙ ap (λ (rest : List Command). take i commands ++ rest) (drop_more commands i x h)
+        ∙ ap (λ (c : Command). take i commands ++ c ∷ drop (i + 1) commands) (sym is);
+    passed = all;
+    fails = missing;
+  }
+
+-- and all of them
+pub corners_all : (s : GluedPolygons) (commands : List Command) (i : ℕ) → length commands ≤ i → AllByRecursion (HasCorner s) (take i commands) → AllByRecursion (HasCorner s) commands
+corners_all s commands i h all = subst (AllByRecursion (HasCorner s)) (take_all i commands h) all

@@ -1,9 +1,10 @@
 -- The whole answer to words and the bytes of a job: what is written, and the status.
 use Rattle.std.specs.Prelude.{◌≡◌, ℕ, ◌<◌, ◌≤◌, Bool, false, ◌||◌, if◌then◌else◌, List, [], ◌∷◌, ◌++◌, length}
 use Rattle.std.specs.List.{AllByRecursion}
+use Rattle.fs_lists.specs.First.{IsFirstWithout}
 use Rattle.fs_io.specs.Whole.{most_bytes}
 use Rattle.fs_gluing.specs.declared.faults.Fault.{Fault}
-use Rattle.fs_gluing.specs.declared.faults.Fault.TheVariants.{TooLong}
+use Rattle.fs_gluing.specs.declared.faults.Fault.TheVariants.{NoSuchSide, TooLong}
 use Rattle.fs_gluing.specs.declared.faults.BuildStop.{BuildStop}
 use Rattle.fs_gluing.specs.declared.faults.BuildStop.TheVariants as stops
 use Rattle.fs_gluing.specs.declared.shapes.Shape.{Shape}
@@ -11,9 +12,10 @@ use Rattle.fs_gluing.specs.Shape.{HasShape}
 use Rattle.fs_gluing.specs.Surface.{GluedPolygons, IsSurface}
 use Rattle.fs_gluing.specs.FirstFault.{Test, PassesOf, tests_of, IsFirstFailure, stop_of}
 use Rattle.fs_job.specs.declared.job.Command.{Command}
+use Rattle.fs_job.specs.declared.job.Command.TheVariants as commands
 use Rattle.fs_job.specs.Draft.{Draft}
 use Rattle.fs_job.specs.Grammar.{IsJob, IsFirstFault}
-use Rattle.fs_report.specs.Text.{fault_line, build_line, Answers}
+use Rattle.fs_report.specs.Text.{fault_line, build_line, Answers, HasCorner}
 use Rattle.fs_cli.specs.Words.{GiveBudget}
 use Rattle.fs_cli.specs.declared.outcome.Status.{Status}
 use Rattle.fs_cli.specs.declared.outcome.Status.TheVariants as status
@@ -54,6 +56,20 @@ abbrev pub AnswersAll : GluedPolygons → ℕ → List Command → List ℕ → 
 AnswersAll s budget [] output partial = (output ≡ []) × (partial ≡ false)
 AnswersAll s budget (command ∷ commands) output partial = AreJoined (Answers s budget command) (AnswersAll s budget commands) output partial
 
+-- the line of the job that states a command which names a corner
+abbrev pub stated_line : Command → ℕ
+stated_line commands.Check = 0
+stated_line commands.Stratum = 0
+stated_line (commands.Segment line start v) = line
+
+-- what commands about a surface are answered with
+pub data AnswersCommands (s : GluedPolygons) (budget : ℕ) (commands : List Command) (output : List ℕ) (result : Status) : Type 0 where
+  -- the first that names a corner which the surface doesn't have is refused, and none is answered
+  no_such_corner : (command : Command) → IsFirstWithout (HasCorner s) commands command → result ≡ status.Refused → output ≡ fault_line (NoSuchSide (stated_line command))
+      → AnswersCommands s budget commands output result
+  -- the surface has them all, and each command is answered, in order
+  each_answered : (partial : Bool) → AllByRecursion (HasCorner s) commands → AnswersAll s budget commands output partial → result ≡ status_of partial → AnswersCommands s budget commands output result
+
 -- the bytes are answered with this output and this status, each command within the budget, for one of four reasons
 pub data AnswersJob (budget : ℕ) (bytes output : List ℕ) (result : Status) : Type 0 where
   -- there are too many bytes
@@ -63,10 +79,10 @@ pub data AnswersJob (budget : ℕ) (bytes output : List ℕ) (result : Status) :
   -- the shape fails a test of building
   not_built : (draft : Draft) → (test : Test) → length bytes ≤ most_bytes → IsJob bytes draft → IsFirstFailure draft.d (draft_shape draft) test
       → result ≡ stop_status (stop_of test) → output ≡ stop_line (stop_of test) → AnswersJob budget bytes output result
-  -- the surface of the shape is built, and the commands are answered in order
-  answered : (draft : Draft) → (s : GluedPolygons) → (partial : Bool) → length bytes ≤ most_bytes → IsJob bytes draft
+  -- the surface of the shape is built, and the commands are answered
+  answered : (draft : Draft) → (s : GluedPolygons) → length bytes ≤ most_bytes → IsJob bytes draft
       → IsSurface s → HasShape draft.d (draft_shape draft) s → AllByRecursion (PassesOf draft.d (draft_shape draft)) (tests_of (draft_shape draft))
-      → AnswersAll s budget draft.commands output partial → result ≡ status_of partial → AnswersJob budget bytes output result
+      → AnswersCommands s budget draft.commands output result → AnswersJob budget bytes output result
 
 -- these words and these bytes are answered with this output and this status: the words give the budget
 pub record IsAnswered (words : List (List ℕ)) (bytes output : List ℕ) (result : Status) : Type 0 where

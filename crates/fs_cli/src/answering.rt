@@ -1,9 +1,13 @@
 // Answers written into a sink.
 
-ghost use Rattle.std.specs.Prelude.{◌≤◌, ◌∷◌, []};
+ghost use Rattle.std.specs.Prelude.{◌≡◌, ◌≤◌, ◌∷◌, [], MatchOption};
+ghost use Rattle.std.specs.List.{AllByRecursion};
+ghost use Rattle.fs_lists.specs.First.{IsFirstWithout};
 ghost use Rattle.fs_gluing.specs.Surface.{IsSurface};
-ghost use Rattle.fs_report.specs.Text.{fault_line, build_line, Answers};
-ghost use Rattle.fs_cli.specs.Answer.{IsWhole, AnswersAll};
+ghost use Rattle.fs_job.specs.declared.job.Command.{Command};
+ghost use Rattle.fs_job.specs.Reading.{HasDirection};
+ghost use Rattle.fs_report.specs.Text.{fault_line, build_line, Answers, HasCorner};
+ghost use Rattle.fs_cli.specs.Answer.{IsWhole, AnswersAll, AnswersCommands, stated_line};
 ghost use Rattle.fs_cli.specs.Words.{most_budget};
 ghost use Rattle.fs_cli.specs.Writing.{Writes, IsThisText, HasStatus};
 
@@ -55,6 +59,8 @@ fn answer_one<O: Sink>(
     out: &mut O,
 ) -> Status
     requires surface { IsSurface surface.now }
+    requires corner { HasCorner surface.now command.now }
+    requires direction { HasDirection command.now }
     requires least { 1 ≤ budget }
     requires most { budget ≤ most_budget }
     ensures { Writes (HasStatus (Answers surface.now budget command.now)) result
@@ -71,9 +77,40 @@ fn answer_one<O: Sink>(
     write_text(&answer.text, status, out)
 }
 
-// Writes the answers to commands in order, each before the next one is found, and each within the
-// budget.
-pub(crate) fn answer_all<O: Sink>(
+// The line of the first command that names a corner which the surface doesn't have.
+fn missing_corner(surface: &Surface, commands: &[Command]) -> Option<u32>
+    ensures { MatchOption result
+        (AllByRecursion (HasCorner surface.now) commands.now)
+        (λ line. (command : Command) × IsFirstWithout (HasCorner surface.now) commands.now command × (line ≡ stated_line command)) }
+{
+    for command in commands {
+        if let Some(line) = line_without_corner(surface, command) {
+            return Some(line);
+        }
+    }
+    None
+}
+
+// The line of a command that names a corner which the surface doesn't have.
+fn line_without_corner(surface: &Surface, command: &Command) -> Option<u32>
+    ensures { MatchOption result
+        (HasCorner surface.now command.now)
+        (λ line. (¬ HasCorner surface.now command.now) × (line ≡ stated_line command.now)) }
+{
+    match command {
+        Command::Check | Command::Stratum => None,
+        Command::Segment { line, start, .. } => {
+            if surface.has(*start) {
+                None
+            } else {
+                Some(*line)
+            }
+        }
+    }
+}
+
+// Writes the answers to commands: none of them where one names a corner that the surface doesn't have.
+pub(crate) fn answer_commands<O: Sink>(
     alloc: Global,
     surface: &Surface,
     budget: u32,
@@ -81,6 +118,30 @@ pub(crate) fn answer_all<O: Sink>(
     out: &mut O,
 ) -> Status
     requires surface { IsSurface surface.now }
+    requires directions { AllByRecursion HasDirection commands.now }
+    requires least { 1 ≤ budget }
+    requires most { budget ≤ most_budget }
+    ensures { Writes (AnswersCommands surface.now budget commands.now) result
+        (O.held out.old) (O.held out.new) (O.faults out.old) (O.faults out.new) }
+{
+    match missing_corner(surface, commands) {
+        Some(line) => refuse(alloc, &Fault::NoSuchSide { line }, out),
+        None => answer_all(alloc, surface, budget, commands, out),
+    }
+}
+
+// Writes the answers to commands in order, each before the next one is found, and each within the
+// budget.
+fn answer_all<O: Sink>(
+    alloc: Global,
+    surface: &Surface,
+    budget: u32,
+    commands: &[Command],
+    out: &mut O,
+) -> Status
+    requires surface { IsSurface surface.now }
+    requires corners { AllByRecursion (HasCorner surface.now) commands.now }
+    requires directions { AllByRecursion HasDirection commands.now }
     requires least { 1 ≤ budget }
     requires most { budget ≤ most_budget }
     ensures { Writes (HasStatus (AnswersAll surface.now budget commands.now)) result

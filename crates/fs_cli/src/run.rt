@@ -9,7 +9,7 @@ ghost use Rattle.fs_cli.specs.Words.{most_budget, GiveBudget};
 ghost use Rattle.fs_cli.specs.Answer.{AnswersJob, IsAnswered, IsWhole, IsBroken, BeginsEach};
 ghost use Rattle.fs_cli.specs.Writing.{Writes};
 
-use crate::answering::{answer_all, refuse, stop_at};
+use crate::answering::{answer_commands, refuse, stop_at};
 use crate::laws::one_answer;
 use crate::outcome::Status;
 use crate::words::find_budget;
@@ -42,7 +42,7 @@ fn answer<O: Sink>(alloc: Global, budget: u32, bytes: &[u8], out: &mut O) -> Sta
         Err(JobStop::NoMemory) => return Status::NoMemory,
     };
     match build(alloc, job.field, form_shape(&job.form)) {
-        Ok(surface) => answer_all(alloc, &surface, budget, job.commands.as_slice(), out),
+        Ok(surface) => answer_commands(alloc, &surface, budget, job.commands.as_slice(), out),
         Err(BuildStop::Fault(fault)) => refuse(alloc, &fault, out),
         Err(BuildStop::Overflow(site)) => stop_at(alloc, &site, out),
         Err(BuildStop::NoMemory) => Status::NoMemory,
@@ -51,10 +51,13 @@ fn answer<O: Sink>(alloc: Global, budget: u32, bytes: &[u8], out: &mut O) -> Sta
 
 /// Reads a job, answers it, and says how that went.
 ///
-/// The words may be `--steps N` or `--steps=N`, with N from 1 to 1,000,000 in one to nine decimal digits;
-/// or there are none, and N is 100,000. Each command may take N steps. `Usage` comes exactly for other words. `Refused` writes the line of the first fault. `Partial` writes the line of
-/// the site where building overflowed, or the answers to the commands in order, of which at least
-/// one isn't whole. `Done` writes the answers to the commands in order: nothing where there are none.
+/// The words may be `--steps N` or `--steps=N`, N being 1 to 1,000,000 in one to nine decimal digits:
+/// each command may take N steps. Without words N is 100,000. `Usage` comes exactly for all other words.
+///
+/// `Refused` writes the line of the first fault: that of the job, of its surface, or of the first command that
+/// names a corner which the surface doesn't have. `Partial` writes the line of the site where building
+/// overflowed, or the answers to the commands in order, of which at least one isn't whole. `Done`
+/// writes the answers to the commands in order: nothing where there are none.
 #[tactic(auto, using(crate::proofs::CallWrites::nothing_begins))]
 pub fn flat<I: Source, O: Sink>(
     alloc: Global,

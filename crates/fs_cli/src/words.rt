@@ -4,11 +4,13 @@ ghost use Rattle.std.specs.Prelude.{map, string_bytes};
 ghost use Rattle.fs_job.specs.Line.{Finds};
 ghost use Rattle.fs_cli.specs.Words.{SpellsBudget, GiveBudget};
 
-// The budget where no word gives one, the greatest one, and how many digits one may have.
+// The budget where no word gives one.
 const DEFAULT_BUDGET: u32 = 100_000;
 
+// The greatest budget.
 const MOST_BUDGET: u32 = 1_000_000;
 
+// The most digits of a budget.
 const MOST_DIGITS: usize = 9;
 
 // The budget that a text spells.

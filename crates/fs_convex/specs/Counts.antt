@@ -1,4 +1,4 @@
--- How many numbers pass a test. A library for crates to come.
+-- How many numbers pass a test.
 use Rattle.std.specs.Prelude.{ℕ, zero, suc, ◌+◌, Bool, cond}
 
 -- how many of the numbers below k pass the test

@@ -1,4 +1,4 @@
--- Convex polygons by the endless sequences of their sides and of the positions of their corners. A library for crates to come.
+-- Convex polygons by the endless sequences of their sides and of the positions of their corners.
 use Rattle.std.specs.Prelude.{◌≡◌, ℕ, zero, suc, ◌+◌, ◌<◌, ◌≤◌, Bool}
 use Rattle.fs_ring.specs.Operations.{Operations}
 use Rattle.fs_ring.specs.Vector.{Vector, unit_vector, add_vector, sub_vector, cross, dot}

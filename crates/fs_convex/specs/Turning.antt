@@ -1,4 +1,4 @@
--- Boundaries as sequences of sides: how they turn, seen from a direction. A library for crates to come.
+-- Boundaries as sequences of sides: how they turn, seen from a direction.
 use Rattle.std.specs.Prelude.{◌≡◌, ℕ, suc, ◌+◌, ◌<◌, ◌≤◌, Bool, true, ◌&&◌}
 use Rattle.fs_ring.specs.Operations.{Operations}
 use Rattle.fs_ring.specs.Vector.{Vector, neg_vector}

@@ -1,5 +1,10 @@
 -- Vectors of a job times a multiple of their denominators.
-use Rattle.std.proofs.Common.{◌≡◌, ◌↔◌, ℕ, pos, ◌+◌, ◌*ℤ◌, ◌%◌, ◌/◌, ◌==◌, Bool, true, false, Result, Ok, Err, IsTrue, None, Some, ℤ, unsigned_abs, refl, ap, ◌∙◌, subst}
+use Rattle.std.proofs.Common.{◌≡◌, ◌↔◌, ℕ, pos, ◌+◌, ◌*ℤ◌, ◌%◌, ◌/◌, ◌==◌, Bool, true, false, Result, Ok, Err, IsTrue, None, Some, ℤ, unsigned_abs, refl, sym, ap, ◌∙◌, subst, inl, inr, ◌<◌, ◌<ℤ◌, arith}
+use Rattle.std.proofs.lemmas.Int.{ints}
+use Rattle.fs_ring.proofs.Integers.{integer_order}
+use Rattle.fs_ring.proofs.Signs as signs
+use Rattle.fs_quadratic.specs.Ring as ring
+use Rattle.fs_fraction.proofs.Divisors.{quotient_positive}
 use Rattle.std.specs.Int.{◌∣◌}
 use Rattle.std.proofs.lemmas.Nat.Gcd.{dvd_of_mod-eq-zero, mod-eq-zero_of_dvd}
 use Rattle.std.specs.Bool.{Decides}
@@ -9,7 +14,7 @@ use Rattle.fs_quadratic.specs.Checked.{step, ◌>>=◌}
 use Rattle.fs_quadratic.specs.Width.{is_in_width}
 use Rattle.fs_quadratic.specs.declared.steps.Place.{Place}
 use Rattle.fs_fraction.specs.Fraction.{scale}
-use Rattle.fs_plane.specs.Vector.{PlaneVector}
+use Rattle.fs_plane.specs.Vector.{PlaneVector, vector_zero}
 use Rattle.fs_plane.proofs.ComputedSigns.{after_value}
 use Rattle.fs_gluing.specs.declared.shapes.Point.{Point}
 use Rattle.fs_plane.specs.declared.sites.Site.TheVariants as sites
@@ -66,3 +71,29 @@ module _ (s : GluedPolygons) (v : Point) (den : ℕ) (z : ℤ) (value : den ≡ 
 
   pub grid_overflows : (stop : Place) → IsMultipleOf den v → scale_to den v ≡ Err stop → GivesScaled s v (Err (sites.Grid stop.0))
   grid_overflows stop h e = (subst (λ n. IsMultipleOf n v) same_den h, (stop, subst (λ n. scale_to n v ≡ Err stop) same_den e, refl))
+
+-- ---- a vector that isn't 0,0 isn't so scaled
+
+part_zero : (k : ℕ) (z : ℤ) → 0 < k → pos k *ℤ z ≡ pos 0 → z ≡ pos 0
+part_zero k z some e = elim (signs.no_zero_divisors integer_order (pos k) z e) [
+  | inl none ↦ absurd (omega (arith, ints))
+  | inr zero ↦ zero
+]
+
+number_zero : (k : ℕ) (x : Quadratic) → 0 < k → scale k x ≡ ring.zero → x ≡ ring.zero
+number_zero k x some e =
+    let p = part_zero k x.p some (ap (λ (y : Quadratic). y.p) e) in
+    let q = part_zero k x.q some (ap (λ (y : Quadratic). y.q) e) in
+    λ i. record { p = p i; q = q i }
+
+-- the parts of a vector are 0, where its scaled vector is (0, 0)
+pub origin_of_scaled : (s : GluedPolygons) (v : Point) (w : PlaneVector) → pos 0 <ℤ s.den → GivesScaled s v (Ok (Some w)) → w ≡ vector_zero → (v.x.num ≡ ring.zero) × (v.y.num ≡ ring.zero)
+origin_of_scaled s v w positive given e =
+    let some : 0 < unsigned_abs s.den = above s.den positive in
+    let scaled = sym given.2 ∙ e in (
+      number_zero (unsigned_abs s.den / v.x.den) v.x.num (quotient_positive v.x.den (unsigned_abs s.den) given.0.0 some) (ap (λ (u : PlaneVector). u.x) scaled),
+      number_zero (unsigned_abs s.den / v.y.den) v.y.num (quotient_positive v.y.den (unsigned_abs s.den) given.0.1 some) (ap (λ (u : PlaneVector). u.y) scaled),
+    )
+  where
+    above : (z : ℤ) → pos 0 <ℤ z → 0 < unsigned_abs z
+    above z h = omega (arith, ints)

@@ -76,6 +76,16 @@ quotients_coprime a b n j p ha hb hn =
     let j_up : 0 < j = divisor_positive j (n / g) hn (quotient_positive g n third p) in
     one_of_multiple j g (le_of_dvd g_up both) g_up j_up
 
+-- the same for two numbers
+pub pair_coprime : (a n j : ℕ) → 0 < n → j ∣ a / gcd a n → j ∣ n / gcd a n → j ≡ 1
+pair_coprime a n j p ha hn =
+    let g = gcd a n in
+    let is = gcd-is a n in
+    let both : j * g ∣ g = is.2 (j * g) (divisor_back j g a is.0 ha) (divisor_back j g n is.1 hn) in
+    let g_up : 0 < g = divisor_positive g n is.1 p in
+    let j_up : 0 < j = divisor_positive j (n / g) hn (quotient_positive g n is.1 p) in
+    one_of_multiple j g (le_of_dvd g_up both) g_up j_up
+
 -- ---- the greatest common divisor of two numbers, of which the second is above 0
 
 pub gcd_positive : (a b : ℕ) → 0 < b → 0 < gcd a b

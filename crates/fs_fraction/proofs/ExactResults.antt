@@ -1,5 +1,5 @@
 -- The results of the operations on fractions have the values of sums, differences, products, inverses and quotients.
-use Rattle.std.proofs.Common.{◌≡◌, ◌≢◌, ℕ, ℤ, pos, ◌*ℤ◌, ◌*◌, ◌<◌, [], ◌∷◌, refl, sym, ◌∙◌, ap, subst}
+use Rattle.std.proofs.Common.{◌≡◌, ◌≢◌, ℕ, pos, ◌*◌, ◌<◌, [], ◌∷◌, refl, sym, ◌∙◌, ap, subst}
 use Rattle.fs_ring.proofs.Integers.{integer_ring}
 use Rattle.fs_ring.proofs.Signs as signs
 use Rattle.fs_ring.proofs.Solver.{expressions as E, identity, derived, numeral, ◌⊗◌, ◌≐◌, ◌from◌}
@@ -7,7 +7,7 @@ use Rattle.fs_quadratic.specs.Radicand.{IsNoSquare}
 use Rattle.fs_quadratic.specs.Ring.{Quadratic, mul, zero as nil, one}
 use Rattle.fs_quadratic.proofs.Laws.{quadratic_eq, quadratic_ring, quadratic_order}
 use Rattle.fs_fraction.specs.Fraction.{Fraction, HasValue, HasDifference, HasProduct, one_fraction, scale}
-use Rattle.fs_fraction.specs.Arithmetic.{negated, sum, product, with_sign, conjugate, norm, primitive, inverse_num, inverse_den, reciprocal, quotient}
+use Rattle.fs_fraction.specs.Arithmetic.{negated, sum, with_sign, conjugate, norm, primitive, inverse_num, inverse_den, reciprocal, quotient}
 use Rattle.fs_fraction.proofs.Lowest.{reduced-positive}
 use Rattle.fs_fraction.proofs.Inverses.{inverse_den_positive}
 use Rattle.fs_fraction.proofs.Values.{whole, whole-times, whole-positive, crosswise, sum-value, product-value, reciprocal-value}

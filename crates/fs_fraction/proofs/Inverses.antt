@@ -1,11 +1,10 @@
 -- The steps of an inverse add up to it, and its denominator is above 0.
-use Rattle.std.proofs.Common.{◌≡◌, ◌≢◌, inl, inr, ℕ, ℤ, pos, ◌-ℤ◌, ◌*ℤ◌, ◌*◌, ◌/◌, ◌<◌, Result, Ok, Err, sym, ◌∙◌, ap, subst, arith}
+use Rattle.std.proofs.Common.{◌≡◌, ◌≢◌, inl, inr, ℕ, ℤ, pos, ◌-ℤ◌, ◌*ℤ◌, ◌*◌, ◌/◌, ◌<◌, sym, ◌∙◌, ap, subst, arith}
 use Rattle.std.proofs.Math.Nat.{mul-pos}
 use Rattle.std.proofs.lemmas.Int.{ints, to_z-of_z, fits_signed_from_abs}
 use mir.Syntax.{w128}
 use mir.Val.{to_z, of_z}
 use Rattle.std.specs.Prelude.{unsigned_abs, int_div}
-use Rattle.std.specs.Result.{OkIff}
 use Rattle.fs_quadratic.specs.Radicand.{IsNoSquare}
 use Rattle.fs_quadratic.specs.Ring.{Quadratic, zero as nil}
 use Rattle.fs_quadratic.specs.Width.{InWidth, Fits}

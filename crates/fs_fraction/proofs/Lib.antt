@@ -8,3 +8,4 @@ pub mod Readings
 pub mod Spellings
 pub mod ExactResults
 pub mod FittingTests
+pub mod LowestRatios

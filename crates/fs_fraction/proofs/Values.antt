@@ -1,6 +1,6 @@
 -- Fractions and their values: fractions of equal value are equal, and sums and products are those of the values.
 use Rattle.std.proofs.Common.{◌≡◌, ◌≢◌, ℕ, ℤ, pos, negsuc, neg_ℤ, ◌+ℤ◌, ◌-ℤ◌, ◌*ℤ◌, ◌+◌, ◌*◌, ◌/◌, ◌%◌, ◌<◌, ◌≤◌, zero, suc, [], ◌∷◌, refl, sym, ◌∙◌, ap, subst, arith}
-use Rattle.std.proofs.Math.Nat.{mod-lt, mul-pos, mul-lt-mul_of_pos_left, mul-add-mod_self_left, mod-eq_of_lt, mul-zero, dvd-mul_right, mul-div_cancel'}
+use Rattle.std.proofs.Math.Nat.{mod-lt, mul-lt-mul_of_pos_left, mul-add-mod_self_left, mod-eq_of_lt, mul-zero, dvd-mul_right, mul-div_cancel'}
 use Rattle.std.proofs.lemmas.Nat.Gcd.{IsGcd-from_zero, IsGcd-from_mod, same_from_IsGcd, dvd_antisymm}
 use Rattle.std.proofs.lemmas.Int.{ints, unsigned_abs-mul}
 use Rattle.std.specs.Prelude.{unsigned_abs}
@@ -9,15 +9,13 @@ use Rattle.fs_ring.proofs.Integers.{integer_ring, integer_order}
 use Rattle.fs_ring.proofs.Signs.{mul_left_cancel}
 use Rattle.fs_ring.proofs.Solver.{identity, numeral, negative, ◌⊗◌, ◌⊕◌, ◌≐◌}
 use Rattle.fs_quadratic.specs.Radicand.{IsNoSquare}
-use Rattle.fs_quadratic.proofs.Signs.{compare-is}
-use Rattle.fs_quadratic.specs.Ring.{Quadratic, add, sub, neg, mul, sign, compare, zero as nil, one, IsPositive, both}
-use Rattle.fs_quadratic.proofs.Excess.{sign-positive_mul}
+use Rattle.fs_quadratic.specs.Ring.{Quadratic, add, sub, neg, mul, zero as nil, one, IsPositive, both}
 use Rattle.fs_quadratic.proofs.Laws.{quadratic_eq}
 use Rattle.fs_fraction.specs.Divisor.{gcd_within, gcd, content, divide}
 use Rattle.fs_fraction.specs.Fraction.{Fraction, IsLowest, IsReduced, HasValue, reduced, scale}
-use Rattle.fs_fraction.specs.Arithmetic.{negated, sum, product, shared, rest_num, rest_den, left_num, right_num, common_den, conjugate, norm, with_sign, primitive, inner, inverse_num, inverse_den, reciprocal}
+use Rattle.fs_fraction.specs.Arithmetic.{sum, product, shared, rest_num, rest_den, left_num, right_num, common_den, conjugate, norm, with_sign, primitive, inner, inverse_num, inverse_den, reciprocal}
 use Rattle.fs_fraction.proofs.Inverses.{inverse_den_positive}
-use Rattle.fs_fraction.proofs.Divisors.{gcd-is, multiple_positive, first_multiple, second_multiple, third_multiple, greatest}
+use Rattle.fs_fraction.proofs.Divisors.{gcd-is, first_multiple, second_multiple, third_multiple, greatest}
 use Rattle.fs_fraction.proofs.Lowest.{reduced-value, reduced-positive, reduced-coprime, quotient_times}
 
 -- ---- common divisors of multiples
@@ -72,7 +70,8 @@ size_divides m n z w e =
 cancel : (n : ℕ) (z w : ℤ) → 0 < n → pos n *ℤ z ≡ pos n *ℤ w → z ≡ w
 cancel n z w up e = mul_left_cancel integer_order (pos n) z w (λ none. absurd (omega (arith, ints))) e
 
-fraction_eq : {x y : Fraction} → x.num ≡ y.num → x.den ≡ y.den → x ≡ y
+-- fractions with equal numerators and equal denominators
+pub fraction_eq : {x y : Fraction} → x.num ≡ y.num → x.den ≡ y.den → x ≡ y
 fraction_eq e f = λ i. record { num = e i; den = f i }
 
 -- two reduced fractions with the same value are one

@@ -1,6 +1,7 @@
 -- The parts of a number as they are written, and the texts that begin with them.
-use Rattle.std.specs.Prelude.{◌≡◌, ℕ, ◌<◌, ◌≤◌, Bool, List, [], ◌∷◌, ◌++◌, Option, Some, None, option_map, length}
+use Rattle.std.specs.Prelude.{◌≡◌, ℕ, ◌<◌, ◌≤◌, ◌^◌, Bool, List, [], ◌∷◌, ◌++◌, Option, Some, None, option_map, length}
 use Rattle.std.specs.List.{AllByRecursion}
+use Rattle.std.specs.Int.{◌∣◌}
 use Rattle.std.specs.Char.{digit_value}
 use Rattle.std.specs.Str.Parse.{IsNumeral, digits_value}
 use Rattle.fs_fraction.specs.declared.written.Ratio.{Ratio as RatioSlices}
@@ -37,6 +38,13 @@ IsNarrowRatio a = AllByRecursion (λ run. length run ≤ 18) (a.over ∷ under_r
 -- the denominator isn't 0
 abbrev pub IsDefinedRatio : Ratio → Type 0
 IsDefinedRatio a = AllByRecursion (λ run. digits_value 10 run ≡ 0 → ⊥) (under_runs a.under)
+
+-- 1 is the only common divisor of the two numbers, the second of which is above 0, and neither has more than 18 digits
+pub record IsLowestRatio (over under : ℕ) : Type 0 where
+  pub positive : 0 < under
+  pub coprime : (k : ℕ) → k ∣ over → k ∣ under → k ≡ 1
+  pub over_below : over < 10 ^ 18
+  pub under_below : under < 10 ^ 18
 
 -- a ratio ends there: no digit follows, and no stroke where it has none
 abbrev pub Ends : Option (List ℕ) → List ℕ → Type 0

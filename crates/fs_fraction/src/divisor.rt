@@ -35,7 +35,7 @@ fn divisor_of_narrow(a: u128, b: u64) -> u128
 }
 
 // The same where both numbers have 64 bits, as most remainders do after a step or two.
-fn narrow_divisor(a: u64, b: u64) -> u64
+pub(crate) fn narrow_divisor(a: u64, b: u64) -> u64
     ensures { result ≡ gcd a b }
 {
     let mut larger = a;

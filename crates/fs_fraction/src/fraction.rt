@@ -47,6 +47,14 @@ impl Frac {
         in_lowest_terms(num, den.unsigned_abs())
     }
 
+    // The fraction num/den, which is in lowest terms.
+    pub(crate) fn lowest(num: Elem, den: u128) -> Frac
+        requires { IsLowest num den }
+        ensures { result ≡ record { num = num; den = den } }
+    {
+        Frac { num, den }
+    }
+
     /// The numerator.
     pub fn num(self) -> Elem
         ensures { result ≡ self.num }

@@ -2,3 +2,4 @@
 pub mod ScalingInTurn
 pub mod CommonDenominator
 pub mod ScaledVectors
+pub mod EqualDenominators

@@ -11,6 +11,7 @@ pub mod Vertices
 pub mod Scaling
 pub mod Shape
 pub mod Gluing
+pub mod PartnerTable
 pub mod FirstFault
 pub mod TestsInOrder
 pub mod SearchMarks

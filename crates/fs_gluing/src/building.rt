@@ -2,7 +2,6 @@
 
 ghost use Rattle.std.specs.Prelude.{◌≡◌, ◌⊎◌, ◌≤◌, ◌<◌, ℕ, List, Ok, Err, length, map, Some, IsSome, IfOk, OnOk, IfErr};
 ghost use Rattle.std.specs.List.{AllByRecursion};
-ghost use Rattle.std.specs.BTreeMap.{get};
 ghost use Rattle.fs_gluing.specs.Limits.{most_polygons, most_sides};
 ghost use Rattle.fs_gluing.specs.declared.faults.BuildStop.{BuildStop};
 ghost use Rattle.fs_gluing.specs.declared.shapes.Glue.{Glue};
@@ -13,10 +12,12 @@ ghost use Rattle.fs_gluing.specs.FirstFault.{Test, IsFirstFailure, stop_of, IsBu
 ghost use Rattle.fs_gluing.specs.FirstFault.Test.{side_glued};
 ghost use Rattle.fs_gluing.specs.Surface.{GluedPolygons, IsSurface};
 ghost use Rattle.fs_gluing.specs.TestsInOrder.{IsFirstStop};
-ghost use Rattle.fs_gluing.specs.Gluing.{corner_cmp, sides_between, glued_polygon, glued_polygons};
+ghost use Rattle.fs_gluing.specs.Gluing.{sides_between, glued_polygon, glued_polygons};
+ghost use Rattle.fs_gluing.specs.PartnerTable.{partner_of};
 
 use crate::faults::{BuildStop, Fault};
 use crate::glue_lines::pair_sides;
+use crate::partners::Partners;
 use crate::polygons::check_polygon;
 use crate::reaching::check_reached;
 use crate::scaling::scale;
@@ -27,7 +28,6 @@ use fs_plane::{Corner, V2};
 use fs_quadratic::Field;
 use fs_quadratic::width::signed;
 use std::alloc::Global;
-use std::collections::BTreeMap;
 
 /// The surface of a shape of 1 to 256 polygons and at most 1,024 sides.
 ///
@@ -88,14 +88,14 @@ fn check_polygons(
 fn glue_polygons(
     alloc: Global,
     polygons: &Sequence<Sequence<V2>>,
-    partners: &BTreeMap<Corner, Corner>,
+    partners: &Partners,
 ) -> Result<Sequence<Sequence<Side>>, BuildStop>
     requires few { length polygons.now ≤ most_polygons }
     requires short { AllByRecursion (λ polygon. length polygon ≤ most_sides) polygons.now }
-    ensures glued { IfOk result (λ rows. rows ≡ glued_polygons (get corner_cmp partners.now) 0 polygons.now) }
-    ensures passed { OnOk result (AllByRecursion (λ c. IsSome (get corner_cmp partners.now c)) (all_sides polygons.now)) }
+    ensures glued { IfOk result (λ rows. rows ≡ glued_polygons (partner_of partners.now) 0 polygons.now) }
+    ensures passed { OnOk result (AllByRecursion (λ c. IsSome (partner_of partners.now c)) (all_sides polygons.now)) }
     ensures failed { IfErr result (λ e. (e ≡ BuildStop.NoMemory)
-        ⊎ IsFirstStop (λ c. IsSome (get corner_cmp partners.now c)) (all_sides polygons.now) (λ c. stop_of (side_glued c)) e) }
+        ⊎ IsFirstStop (λ c. IsSome (partner_of partners.now c)) (all_sides polygons.now) (λ c. stop_of (side_glued c)) e) }
 {
     let mut rows = Sequence::new(alloc);
     for (i, polygon) in polygons.as_slice().iter().enumerate() {
@@ -109,23 +109,23 @@ fn glue_polygon(
     alloc: Global,
     i: u16,
     sides: &[V2],
-    partners: &BTreeMap<Corner, Corner>,
+    partners: &Partners,
 ) -> Result<Sequence<Side>, BuildStop>
     requires { length sides.now ≤ most_sides }
-    ensures glued { IfOk result (λ row. row ≡ glued_polygon (get corner_cmp partners.now) i 0 sides.now) }
-    ensures passed { OnOk result (AllByRecursion (λ c. IsSome (get corner_cmp partners.now c)) (sides_between i 0 (length sides.now))) }
+    ensures glued { IfOk result (λ row. row ≡ glued_polygon (partner_of partners.now) i 0 sides.now) }
+    ensures passed { OnOk result (AllByRecursion (λ c. IsSome (partner_of partners.now c)) (sides_between i 0 (length sides.now))) }
     ensures failed { IfErr result (λ e. (e ≡ BuildStop.NoMemory)
-        ⊎ IsFirstStop (λ c. IsSome (get corner_cmp partners.now c)) (sides_between i 0 (length sides.now)) (λ c. stop_of (side_glued c)) e) }
+        ⊎ IsFirstStop (λ c. IsSome (partner_of partners.now c)) (sides_between i 0 (length sides.now)) (λ c. stop_of (side_glued c)) e) }
 {
     let mut row = Sequence::new(alloc);
     for (j, vector) in sides.iter().enumerate() {
         let corner = Corner::new(i, j as u16);
-        let Some(partner) = partners.get(&corner) else {
+        let Some(partner) = partners.get(corner) else {
             return Err(BuildStop::Fault(Fault::Unglued(corner)));
         };
         row.push(Side {
             vector: *vector,
-            partner: *partner,
+            partner,
         })?;
     }
     Ok(row)

@@ -6,6 +6,7 @@ mod building;
 mod faults;
 mod glue_lines;
 mod limits;
+mod partners;
 mod polygons;
 mod reaching;
 mod scaling;

@@ -107,6 +107,9 @@ fn common_multiple(m: u128, x: Frac) -> Option<u128>
     ensures within { IfSome result (λ den. den < 2 ^ 127) }
 {
     let n = x.denominator();
+    if m == n {
+        return Some(m);
+    }
     checked_natural_product(m, n / greatest_divisor(m, n))
 }
 
@@ -166,6 +169,24 @@ fn scale_side(den: u128, corner: Corner, point: Point) -> Result<V2, BuildStop>
 
 // A coordinate times den. The places of its two parts are `place` and the next.
 fn scale_coordinate(den: u128, x: Frac, corner: Corner, place: u32) -> Result<Elem, BuildStop>
+    requires within { den < 2 ^ 127 }
+    requires place { place ≤ 5 }
+    ensures passed { OnOk result (AllByRecursion PassesScale
+        (part_fits corner.polygon corner.side place (den / x.den) x.num.p
+        ∷ part_fits corner.polygon corner.side (place + 1) (den / x.den) x.num.q ∷ [])) }
+    ensures scaled { IfOk result (λ y. y ≡ scale (den / x.den) x.num) }
+    ensures failed { IfErr result (IsFirstStop PassesScale
+        (part_fits corner.polygon corner.side place (den / x.den) x.num.p
+        ∷ part_fits corner.polygon corner.side (place + 1) (den / x.den) x.num.q ∷ []) (λ test. stop_of (of_scaling test))) }
+{
+    if den == x.denominator() {
+        return Ok(x.num());
+    }
+    scale_parts(den, x, corner, place)
+}
+
+// The parts of a coordinate times den over its denominator.
+fn scale_parts(den: u128, x: Frac, corner: Corner, place: u32) -> Result<Elem, BuildStop>
     requires within { den < 2 ^ 127 }
     requires place { place ≤ 5 }
     ensures passed { OnOk result (AllByRecursion PassesScale

@@ -19,6 +19,10 @@ pub words-skipped : (text : List ℕ) (i : ℕ) → AllByRecursion (λ b. is_bla
 words-skipped text i all =
     ap words_of (sym (take-append-drop i text)) ∙ (words-blanks (take i text) (drop i text) all ∙ ap words_of (sym (take_rest text i)))
 
+-- eight spaces before the first word
+pub words-eight : (text rest : List ℕ) → text ≡ 32 ∷ 32 ∷ 32 ∷ 32 ∷ 32 ∷ 32 ∷ 32 ∷ 32 ∷ rest → words_of text ≡ words_of rest
+words-eight text rest e = ap words_of e ∙ words-blanks (32 ∷ 32 ∷ 32 ∷ 32 ∷ 32 ∷ 32 ∷ 32 ∷ 32 ∷ []) rest (refl, (refl, (refl, (refl, (refl, (refl, (refl, (refl, tt))))))))
+
 -- blanks alone have no words
 pub words-all_blank : (text : List ℕ) (i : ℕ) → length text ≤ i → AllByRecursion (λ b. is_blank b ≡ true) (take i text) → words_of text ≡ []
 words-all_blank text i h all =

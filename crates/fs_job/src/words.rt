@@ -32,8 +32,29 @@ fn is_blank(byte: u8) -> bool
     byte == b' ' || byte == b'\t'
 }
 
+// What follows the spaces that a text begins with, taken eight at a time: up to seven of them stay.
+fn skip_eights(text: &[u8]) -> &[u8]
+    ensures words { words_of text.now ≡ words_of result.now }
+    ensures shorter { length result.now ≤ length text.now }
+{
+    let mut rest = text;
+    while let Some(more) = rest.strip_prefix(b"        ".as_slice()) {
+        rest = more;
+    }
+    rest
+}
+
 // What follows the spaces and tabs that a text begins with.
 fn skip_blanks(text: &[u8]) -> &[u8]
+    ensures words { words_of text.now ≡ words_of result.now }
+    ensures begins { Begins (λ b. is_blank b ≡ false) result.now }
+    ensures shorter { length result.now ≤ length text.now }
+{
+    skip_each(skip_eights(text))
+}
+
+// The same, one by one.
+fn skip_each(text: &[u8]) -> &[u8]
     ensures words { words_of text.now ≡ words_of result.now }
     ensures begins { Begins (λ b. is_blank b ≡ false) result.now }
     ensures shorter { length result.now ≤ length text.now }

@@ -1,13 +1,13 @@
 -- A straight path has an end, within any number of crossings. A library for crates to come.
 use Rattle.std.proofs.Common.{◌≡◌, ◌⊎◌, ℕ, Bool, zero, suc, ◌+◌, ◌≤◌, List, [], ◌∷◌, ◌++◌, length, refl, sym, subst, inl, inr, arith, zero-add, length-append}
 use Rattle.fs_ring.specs.Operations.{Operations}
-use Rattle.fs_ring.specs.OrderedRing.{IsOrderedRing, Sign, positive, null, negative, less, equal, greater, IsNonNegative}
+use Rattle.fs_ring.specs.OrderedRing.{IsOrderedRing, positive, null, negative, less, equal, greater, IsNonNegative}
 use Rattle.fs_ring.specs.Vector.{Vector, zero_vector, add_vector, sub_vector, neg_vector, cross, dot, norm}
-use Rattle.fs_ring.specs.Direction.{IsAlong, InSector, at_start, inside}
+use Rattle.fs_ring.specs.Direction.{IsAlong, at_start, inside}
 use Rattle.fs_ring.proofs.Signs as signs
 use Rattle.fs_ring.proofs.Order as order
 use Rattle.fs_ring.proofs.Directions as directions
-use Rattle.fs_ring.proofs.Turns as turns
+use Rattle.fs_ring.proofs.Sectors as sectors
 use Rattle.fs_ring.proofs.Chords as chords
 use Rattle.fs_ring.proofs.Solver.{expressions as E, ◌≐◌}
 use Rattle.fs_convex.specs.Turning.{DecidesHalfPlanes}
@@ -23,23 +23,6 @@ use Rattle.fs_paths.proofs.Words as words
 use Rattle.fs_paths.proofs.Ends as ends
 use Rattle.fs_paths.proofs.AlongSide as along_side
 use Rattle.fs_paths.proofs.EndUnique as end_unique
-
-module _ {A : Type 0} {R : Operations A} {IsPositive : A → Type 0} (L : IsOrderedRing R IsPositive) where
-  abbrev Sector : Vector A → Vector A → Vector A → Type 0
-  Sector a b v = InSector R IsPositive a b v
-
-  -- it can be decided whether a vector is in a sector
-  pub decide_sector : (a b v : Vector A) → InSector R IsPositive a b v ⊎ ¬ InSector R IsPositive a b v
-  decide_sector a b v = go (L.trichotomy (cross R a v)) (L.trichotomy (cross R v b)) (L.trichotomy (dot R a v))
-    where
-      go : Sign R IsPositive (cross R a v) → Sign R IsPositive (cross R v b) → Sign R IsPositive (dot R a v) → Sector a b v ⊎ ¬ Sector a b v
-      go (positive p) (positive q) t = inl (inside p q)
-      go (positive p) (null e) t = inr (λ s. elim s [ at_start h ↦ turns.along_not_left L h p | inside k l ↦ signs.positive-ne-zero L l e ])
-      go (positive p) (negative q) t = inr (λ s. elim s [ at_start h ↦ turns.along_not_left L h p | inside k l ↦ signs.not_both_signs L l q ])
-      go (null e) s (positive q) = inl (at_start (record { parallel = e; same_way = q }))
-      go (null e) s (null f) = inr (λ s. elim s [ at_start h ↦ signs.positive-ne-zero L h.same_way f | inside k l ↦ signs.positive-ne-zero L k e ])
-      go (null e) s (negative q) = inr (λ s. elim s [ at_start h ↦ signs.not_both_signs L h.same_way q | inside k l ↦ signs.positive-ne-zero L k e ])
-      go (negative p) s t = inr (λ s. elim s [ at_start h ↦ signs.negative-ne-zero L p h.parallel | inside k l ↦ signs.not_both_signs L k p ])
 
 module _ {A : Type 0} {R : Operations A} {IsPositive : A → Type 0} (L : IsOrderedRing R IsPositive)
     {is_ahead : Vector A → Vector A → Bool} (test : DecidesHalfPlanes R IsPositive is_ahead)
@@ -106,7 +89,7 @@ module _ {A : Type 0} {R : Operations A} {IsPositive : A → Type 0} (L : IsOrde
 
     -- a path has an end, within any number of crossings
     pub end_exists : (n : ℕ) → (a : PathEnd X) × IsEnd R IsPositive G c v n a
-    end_exists n = go (decide_sector L (G.vector c) (neg_vector R (G.vector (G.prev c))) v)
+    end_exists n = go (sectors.decide_sector L (G.vector c) (neg_vector R (G.vector (G.prev c))) v)
       where
         go : InSectorOf R IsPositive G c v ⊎ ¬ InSectorOf R IsPositive G c v → SomeEnd n
         go (inr out) = (outside_sector, out)

@@ -1,4 +1,4 @@
--- The end of a straight path, as one value: which of the ways it ends in, and across which sides. A library for crates to come.
+-- The end of a straight path, as one value: which of the ways it ends in, and across which sides.
 use Rattle.std.specs.Prelude.{ℕ, List, [], length, ◌≤◌}
 use Rattle.fs_ring.specs.Operations.{Operations}
 use Rattle.fs_ring.specs.Vector.{Vector}

@@ -1,4 +1,4 @@
--- How a straight path comes into a polygon that is laid out in the plane, and how its line leaves that polygon. A library for crates to come.
+-- How a straight path comes into a polygon that is laid out in the plane, and how its line leaves that polygon. The contract of `flat` doesn't rest on this file.
 use Rattle.std.specs.Prelude.{◌≡◌, ◌≢◌}
 use Rattle.fs_ring.specs.Operations.{Operations}
 use Rattle.fs_ring.specs.Vector.{Vector, zero_vector, add_vector, sub_vector, cross, dot}

@@ -1,15 +1,13 @@
 -- The sector test gives whether the vector is in the sector.
-use Rattle.std.proofs.Common.{◌≡◌, ℕ, ◌+◌, Bool, true, false, Result, Ok, Err, IfOk, IsTrue, ◌↔◌, refl, sym, ap, ◌∙◌, subst}
-use Rattle.std.specs.Ordering.{is_gt}
+use Rattle.std.proofs.Common.{◌≡◌, ℕ, ◌+◌, Bool, true, false, Result, Ok, Err, IfOk, IsTrue, ◌↔◌, refl, sym, ◌∙◌, subst}
 use Rattle.std.specs.declared.cmp.Ordering.{Ordering}
 use Rattle.std.specs.declared.cmp.Ordering.TheVariants.{Less, Equal, Greater}
 use Rattle.fs_ring.specs.Direction.{at_start, inside}
 use Rattle.fs_quadratic.specs.Radicand.{IsRadicand}
-use Rattle.fs_quadratic.specs.Ring.{Quadratic, IsPositive, sign}
+use Rattle.fs_quadratic.specs.Ring.{Quadratic, sign}
 use Rattle.fs_quadratic.proofs.SquareRoot.{radicand_no_square}
 use Rattle.fs_quadratic.proofs.Signs.{sign-positive, sign-zero, positive_of_sign, zero_of_sign}
 use Rattle.fs_quadratic.specs.declared.steps.Place.{Place}
-use Rattle.fs_quadratic.specs.Checked.{◌>>=◌}
 use Rattle.fs_plane.specs.Formulas.{cross_after, dot_after, is_above_zero, by_turn, in_sector_after}
 use Rattle.fs_plane.specs.Vector.{PlaneVector, vector_neg, cross, dot, IsInSector}
 use Rattle.fs_plane.proofs.FormulaLaws.{cross_value, dot_value}

@@ -1,10 +1,10 @@
 -- The formulas of small vectors always fit.
-use Rattle.std.proofs.Common.{◌≡◌, ℕ, Ok, sym, subst}
+use Rattle.std.proofs.Common.{◌≡◌, ℕ, Ok, sym, subst, arith}
 use Rattle.fs_quadratic.specs.declared.radicand.Field.{Field}
 use Rattle.fs_quadratic.specs.Ring.{Quadratic, add, sub}
-use Rattle.fs_quadratic.specs.Width.{Fits}
+use Rattle.fs_quadratic.specs.Width.{Fits, IsSmall, IsTiny}
 use Rattle.fs_quadratic.proofs.Small.{small_fits, small_sum_fits, small_difference_fits}
-use Rattle.fs_plane.specs.Vector.{PlaneVector, IsSmallVector, cross, dot}
+use Rattle.fs_plane.specs.Vector.{PlaneVector, IsSmallVector, IsTinyVector, cross, dot}
 use Rattle.fs_plane.specs.Formulas.{cross_after, dot_after}
 use Rattle.fs_plane.proofs.FormulaLaws.{cross_fits, dot_fits}
 
@@ -13,6 +13,13 @@ fits_sub {w} {x} {y} {z} e f h = subst (λ v. Fits (sub v x)) (sym e) (subst (λ
 
 pub fits_add : {w x y z : Quadratic} → w ≡ y → x ≡ z → Fits (add y z) → Fits (add w x)
 fits_add {w} {x} {y} {z} e f h = subst (λ v. Fits (add v x)) (sym e) (subst (λ v. Fits (add y v)) (sym f) h)
+
+small_of_tiny : (x : Quadratic) → IsTiny x → IsSmall x
+small_of_tiny x t = (omega arith, omega arith)
+
+-- tiny vectors are small
+pub small_of_tiny_vector : (a : PlaneVector) → IsTinyVector a → IsSmallVector a
+small_of_tiny_vector a t = (small_of_tiny a.x t.0, small_of_tiny a.y t.1)
 
 module _ (field : Field) (a b : PlaneVector) (s : IsSmallVector a) (t : IsSmallVector b) where
   pub small_cross_fits : Fits (cross field.d a b)

@@ -7,7 +7,7 @@ use Rattle.fs_ring.specs.Vector as plane
 use Rattle.fs_ring.specs.Vector.{Vector}
 use Rattle.fs_ring.specs.Direction.{InSector, InHalfPlane}
 use Rattle.fs_quadratic.specs.Ring.{Quadratic, quadratic, zero, one, add, neg, sign, IsPositive}
-use Rattle.fs_quadratic.specs.Width.{IsSmall}
+use Rattle.fs_quadratic.specs.Width.{IsSmall, IsTiny}
 
 -- whether both parts of two numbers are equal
 abbrev pub is_same_number : Quadratic → Quadratic → Bool
@@ -35,6 +35,10 @@ is_same_vector a b = is_same_number a.x b.x && is_same_number a.y b.y
 -- both parts are small
 abbrev pub IsSmallVector : PlaneVector → Type 0
 IsSmallVector a = IsSmall a.x × IsSmall a.y
+
+-- both parts are tiny
+abbrev pub IsTinyVector : PlaneVector → Type 0
+IsTinyVector a = IsTiny a.x × IsTiny a.y
 
 -- the opposite vector
 abbrev pub vector_neg : PlaneVector → PlaneVector

@@ -1,6 +1,6 @@
 ghost use Rattle.std.specs.Prelude.{◌≡◌, ◌+◌, ◌<◌, ◌^◌, ◌↔◌, IfOk, IsTrue};
 ghost use Rattle.fs_plane.specs.Formulas.{cross_after, dot_after, norm_after, in_sector_after, is_convex_after, is_above_zero};
-ghost use Rattle.fs_plane.specs.Vector.{IsSmallVector, IsInSector, IsAllowedCorner, cross, dot, norm};
+ghost use Rattle.fs_plane.specs.Vector.{IsSmallVector, IsTinyVector, IsInSector, IsAllowedCorner, cross, dot, norm};
 
 use crate::vector::V2;
 use fs_quadratic::steps::{difference_at, product_at, sum_at};
@@ -17,7 +17,21 @@ pub fn cross(field: Field, a: V2, b: V2) -> Result<Elem, Place>
 }
 
 /// The cross product as a part of a formula, its places counted on from `before`.
+#[inline]
 pub fn cross_after(before: u32, field: Field, a: V2, b: V2) -> Result<Elem, Place>
+    requires { before + 3 < 2 ^ 32 }
+    ensures { result ≡ cross_after before field.d a b }
+{
+    if a.is_tiny() && b.is_tiny() {
+        Ok(cross_tiny(field, a, b))
+    } else {
+        cross_wide(before, field, a, b)
+    }
+}
+
+// The cross product of vectors that may not be tiny. It stands apart, so that the tiny ones take no call.
+#[inline(never)]
+fn cross_wide(before: u32, field: Field, a: V2, b: V2) -> Result<Elem, Place>
     requires { before + 3 < 2 ^ 32 }
     ensures { result ≡ cross_after before field.d a b }
 {
@@ -175,6 +189,16 @@ fn cross_small(field: Field, a: V2, b: V2) -> Elem
 {
     let left = field.mul_small(a.x, b.y);
     left.sub_fitting(field.mul_small(a.y, b.x))
+}
+
+// The cross product of tiny vectors, whose two products have 64 bits.
+fn cross_tiny(field: Field, a: V2, b: V2) -> Elem
+    requires left { IsTinyVector a }
+    requires right { IsTinyVector b }
+    ensures { result ≡ cross field.d a b }
+{
+    let left = field.mul_tiny(a.x, b.y);
+    left.sub_fitting(field.mul_tiny(a.y, b.x))
 }
 
 // The dot product of small vectors, which always fits.

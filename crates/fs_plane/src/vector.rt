@@ -1,5 +1,5 @@
 ghost use Rattle.std.specs.Prelude.{◌≡◌, ◌↔◌, IsTrue};
-ghost use Rattle.fs_plane.specs.Vector.{IsSmallVector, vector_neg, is_upper, is_raised};
+ghost use Rattle.fs_plane.specs.Vector.{IsSmallVector, IsTinyVector, vector_neg, is_upper, is_raised};
 
 use fs_quadratic::{Elem, Field};
 use std::cmp::Ordering;
@@ -45,6 +45,13 @@ impl V2 {
         ensures { IsTrue result ↔ IsSmallVector self }
     {
         self.x.is_small() && self.y.is_small()
+    }
+
+    /// Whether all parts of both numbers are below 2^26 in size. Cross products of tiny vectors take 64 bits.
+    pub fn is_tiny(self) -> bool
+        ensures { IsTrue result ↔ IsTinyVector self }
+    {
+        self.x.is_tiny() && self.y.is_tiny()
     }
 
     /// Whether it points into the upper half: y > 0, or y = 0 and x > 0.

@@ -11,3 +11,4 @@ pub mod RootOrder
 pub mod Comparison
 pub mod WidthTests
 pub mod StepChains
+pub mod Tiny

@@ -9,13 +9,15 @@ use Rattle.fs_quadratic.specs.Ring.{Quadratic, rational_part, r_part, add, sub, 
 use Rattle.fs_quadratic.specs.Width.{InWidth, Fits, RationalPartFits, RPartFits, MulFits, IsSmall}
 use Rattle.fs_quadratic.proofs.Bits.{within_of_abs, of_bits, of_bits-is, of_bits-mul}
 
-abs_add : (y z : ℤ) → unsigned_abs (y +ℤ z) ≤ unsigned_abs y + unsigned_abs z
+-- a sum is at most as great in size as both numbers together
+pub abs_add : (y z : ℤ) → unsigned_abs (y +ℤ z) ≤ unsigned_abs y + unsigned_abs z
 abs_add (pos m) (pos n) = omega (arith, ints)
 abs_add (pos m) (negsuc n) = omega (arith, ints)
 abs_add (negsuc m) (pos n) = omega (arith, ints)
 abs_add (negsuc m) (negsuc n) = omega (arith, ints)
 
-abs_mul : (y z : ℤ) (m n : ℕ) → unsigned_abs y ≤ m → unsigned_abs z ≤ n → unsigned_abs (y *ℤ z) ≤ m * n
+-- the size of a product
+pub abs_mul : (y z : ℤ) (m n : ℕ) → unsigned_abs y ≤ m → unsigned_abs z ≤ n → unsigned_abs (y *ℤ z) ≤ m * n
 abs_mul y z m n h k = subst (λ v. v ≤ m * n) (sym (unsigned_abs-mul y z)) (mul-le-mul h k)
 
 below : (m n : ℕ) → m ≤ n → n < 2 ^ 127 → m < 2 ^ 127

@@ -30,6 +30,10 @@ MulFits d x y = RationalPartFits d x y × RPartFits x y
 abbrev pub IsSmall : Quadratic → Type 0
 IsSmall x = (unsigned_abs x.p < 2 ^ 58) × (unsigned_abs x.q < 2 ^ 58)
 
+-- both parts are below 2^26 in size: a thousand times a product of two of them, and twice that, have 64 bits
+abbrev pub IsTiny : Quadratic → Type 0
+IsTiny x = (unsigned_abs x.p < 2 ^ 26) × (unsigned_abs x.q < 2 ^ 26)
+
 -- ---- the same conditions as tests that compute
 
 abbrev pub is_in_width : ℤ → Bool

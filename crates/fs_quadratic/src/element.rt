@@ -1,7 +1,7 @@
 ghost use Rattle.std.specs.Prelude.{◌≡◌, ◌↔◌, ◌<◌, ◌^◌, IfErr, IsTrue, unsigned_abs};
 ghost use Rattle.std.specs.Result.{OkIff};
 ghost use Rattle.fs_quadratic.specs.Ring.{Quadratic, add, sub, neg};
-ghost use Rattle.fs_quadratic.specs.Width.{InWidth, Fits, IsSmall};
+ghost use Rattle.fs_quadratic.specs.Width.{InWidth, Fits, IsSmall, IsTiny};
 
 use crate::width::{checked_difference, checked_sum};
 use std::marker::Model;
@@ -40,6 +40,16 @@ pub enum Op {
 
 // Small parts are below it in size.
 const SMALL: i128 = 1 << 58;
+
+// Tiny parts are below it in size.
+const TINY: i128 = 1 << 26;
+
+// Whether a part is below 2^26 in size.
+fn is_tiny_part(part: i128) -> bool
+    ensures { IsTrue result ↔ (unsigned_abs part < 2 ^ 26) }
+{
+    -TINY < part && part < TINY
+}
 
 // Whether a part is below 2^58 in size.
 fn is_small_part(part: i128) -> bool
@@ -82,6 +92,13 @@ impl Elem {
         ensures { IsTrue result ↔ IsSmall self }
     {
         is_small_part(self.p) && is_small_part(self.q)
+    }
+
+    /// Whether both parts are below 2^26 in size. Products of tiny numbers take 64 bits.
+    pub fn is_tiny(self) -> bool
+        ensures { IsTrue result ↔ IsTiny self }
+    {
+        is_tiny_part(self.p) && is_tiny_part(self.q)
     }
 
     /// The exact sum, or `Op::Add` exactly where one of its parts overflows.

@@ -2,7 +2,7 @@ ghost use Rattle.std.specs.Prelude.{◌≡◌, ◌*ℤ◌, ◌<◌, ◌^◌, IfE
 ghost use Rattle.std.specs.Option.{SomeIff};
 ghost use Rattle.std.specs.Result.{OkIff};
 ghost use Rattle.fs_quadratic.specs.Ring.{mul, rational_part, r_part};
-ghost use Rattle.fs_quadratic.specs.Width.{InWidth, RationalPartFits, RPartFits, MulFits, IsSmall};
+ghost use Rattle.fs_quadratic.specs.Width.{InWidth, RationalPartFits, RPartFits, MulFits, IsSmall, IsTiny};
 
 use crate::element::{Elem, Op};
 use crate::radicand::Field;
@@ -37,6 +37,27 @@ impl Field {
             small_product(x.p(), y.q()) + small_product(x.q(), y.p()),
         )
     }
+
+    /// The product of two tiny numbers, which has 64 bits.
+    pub fn mul_tiny(self, x: Elem, y: Elem) -> Elem
+        requires left { IsTiny x }
+        requires right { IsTiny y }
+        ensures { result ≡ mul self.d x y }
+    {
+        let p = tiny_product(x.p(), y.p()) + i64::from(self.d) * tiny_product(x.q(), y.q());
+        let q = tiny_product(x.p(), y.q()) + tiny_product(x.q(), y.p());
+        Elem::new(i128::from(p), i128::from(q))
+    }
+}
+
+// The product of two tiny parts.
+fn tiny_product(a: i128, b: i128) -> i64
+    requires a { unsigned_abs a < 2 ^ 26 }
+    requires b { unsigned_abs b < 2 ^ 26 }
+    ensures value { result ≡ a *ℤ b }
+    ensures within { unsigned_abs result < 2 ^ 52 }
+{
+    a as i64 * b as i64
 }
 
 // The product of two small parts, by one multiplication of 64 bits.

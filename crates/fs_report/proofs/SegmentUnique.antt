@@ -1,5 +1,5 @@
 -- `segment` has one answer about a surface, and no other.
-use Rattle.std.proofs.Common.{◌≡◌, ◌⊎◌, ℕ, Bool, Result, Ok, Err, Option, None, Some, List, refl, sym, ap, ◌∙◌, subst, inl, inr, ◌++◌, ◌%◌}
+use Rattle.std.proofs.Common.{◌≡◌, ◌⊎◌, ℕ, Bool, true, Result, Ok, Err, Option, None, Some, List, refl, sym, ap, ◌∙◌, subst, inl, inr, ◌++◌, ◌%◌}
 use Rattle.std.specs.Prelude.{codes, unsigned_abs}
 use Rattle.std.specs.Int.{◌∣◌}
 use Rattle.std.proofs.lemmas.Nat.Gcd.{dvd_of_mod-eq-zero, mod-eq-zero_of_dvd}
@@ -17,7 +17,9 @@ use Rattle.fs_gluing.specs.Scaling.{IsMultipleOf}
 use Rattle.fs_gluing.specs.Surface.{GluedPolygons, IsSurface}
 use Rattle.fs_gluing.specs.SurfaceSides.{polygon_sides}
 use Rattle.fs_develop.specs.Grid.{scale_to, GivesScaled}
-use Rattle.fs_develop.specs.Walks.{IsWithin, WalksTo}
+use Rattle.fs_plane.specs.declared.sites.Stop.TheVariants as stops
+use Rattle.fs_develop.specs.declared.walking.Walk.{Walk}
+use Rattle.fs_develop.specs.Walks.{end_of, IsWithin, WalksTo, IsOnly, IsPathEnd, ReturnsWalk}
 use Rattle.fs_develop.proofs.RunUnique.{leads_unique}
 use Rattle.fs_develop.proofs.RunExists.{walk_exists}
 use Rattle.fs_develop.proofs.ScaledVectors.{scaled_value}
@@ -96,3 +98,26 @@ module _ (s : GluedPolygons) (budget : ℕ) (start : Corner) where
         by_divisors (inl x) (inl y) = by_scaling (x, y) (scale_to den v) refl
         by_divisors (inr x) other = (_, _, off_grid (λ h. x h.0) refl refl)
         by_divisors (inl x) (inr y) = (_, _, off_grid (λ h. y h.1) refl refl)
+
+-- ---- what is answered
+
+module _ (s : GluedPolygons) (budget : ℕ) (start : Corner) where
+  -- a walk that ends
+  pub answered_at_end : (w : PlaneVector) (words text : List ℕ) (partial : Bool) (walk : Walk) → ReturnsWalk (IsOnly (WalksTo s start w budget)) (Ok walk) → IsOnly (IsPathEnd s start w budget) (end_of walk)
+      → text ≡ line_of (words ++ codes " " ++ end_words budget (end_of walk)) → partial ≡ is_undecided (end_of walk) → AnswersPath s budget start w words text partial
+  answered_at_end w words text partial walk run end line kind = ended (end_of walk) run.is end.is line kind
+
+  -- a walk that overflows
+  pub answered_at_site : (w : PlaneVector) (words text : List ℕ) (partial : Bool) (site : Site) → ReturnsWalk (IsOnly (WalksTo s start w budget)) (Err (stops.Overflow site))
+      → text ≡ overflow_line words site → partial ≡ true → AnswersPath s budget start w words text partial
+  answered_at_site w words text partial site run line kind = overflowed site run.is line kind
+
+  -- a vector on the grid
+  pub answered_along : (v : Point) (words text : List ℕ) (partial : Bool) (w : PlaneVector) → GivesScaled s v (Ok (Some w)) → words ≡ segment_words start v → AnswersPath s budget start w words text partial
+      → AnswersSegment s budget start v text partial
+  answered_along v words text partial w scaled same path = followed w scaled (subst (λ (ws : List ℕ). AnswersPath s budget start w ws text partial) same path)
+
+  -- a vector that overflows
+  pub answered_wide : (v : Point) (words text : List ℕ) (partial : Bool) (site : Site) → GivesScaled s v (Err site) → words ≡ segment_words start v → text ≡ overflow_line words site → partial ≡ true
+      → AnswersSegment s budget start v text partial
+  answered_wide v words text partial site scaled same line kind = wide site scaled (line ∙ ap (λ (ws : List ℕ). overflow_line ws site) same) kind

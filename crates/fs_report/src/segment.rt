@@ -28,6 +28,8 @@ pub fn answer_segment(
     requires most { budget ≤ 1000000 }
     ensures { IfOk result (λ answer. AnswersSegment surface.now budget start v.now (string_bytes answer.text) answer.partial) }
 {
+    // A look at the field makes the invariant of the surface known here.
+    let _ = surface.field();
     let words = segment_words(alloc, start, v)?;
     match scale_to_grid(surface, *v) {
         Ok(None) => Ok(Answer {

@@ -9,6 +9,8 @@ pub mod Plane
 pub mod Directions
 pub mod HalfPlanes
 pub mod Turns
+pub mod Sectors
+pub mod AxisSigns
 pub mod Chords
 pub mod Hinges
 pub mod Integers

@@ -1,14 +1,14 @@
 -- How vectors turn: each in the half plane of the one before it; and sectors as two half planes. A library for crates to come.
-use Rattle.std.proofs.Common.{◌≡◌, ◌≢◌, ◌⊎◌, [], ◌∷◌, refl, sym, ap, ◌∙◌, inl, inr}
+use Rattle.std.proofs.Common.{◌≢◌, ◌⊎◌, [], ◌∷◌, refl, inl, inr}
 use Rattle.fs_ring.specs.Operations.{Operations}
-use Rattle.fs_ring.specs.OrderedRing.{IsOrderedRing, IsNonNegative}
-use Rattle.fs_ring.specs.Vector.{Vector, zero_vector, neg_vector, cross, dot, norm}
+use Rattle.fs_ring.specs.OrderedRing.{IsOrderedRing}
+use Rattle.fs_ring.specs.Vector.{Vector, zero_vector, neg_vector, cross, dot}
 use Rattle.fs_ring.specs.Direction.{IsAlong, InHalfPlane, InSector, at_start, inside}
 use Rattle.fs_ring.proofs.Signs as signs
 use Rattle.fs_ring.proofs.Plane as plane
 use Rattle.fs_ring.proofs.Directions as directions
 use Rattle.fs_ring.proofs.HalfPlanes as half_planes
-use Rattle.fs_ring.proofs.Solver.{expressions as E, ◌⊗◌, ◌⊕◌, ◌≐◌, numeral, ◌from◌}
+use Rattle.fs_ring.proofs.Solver.{expressions as E, ◌≐◌, numeral, ◌from◌}
 use Rattle.fs_ring.proofs.PlaneSolver.{plane_derived}
 
 module _ {A : Type 0} {R : Operations A} {IsPositive : A → Type 0} (L : IsOrderedRing R IsPositive) where

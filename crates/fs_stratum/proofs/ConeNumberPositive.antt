@@ -21,7 +21,7 @@ use Rattle.fs_gluing.specs.declared.surfaces.Side.{Side}
 use Rattle.fs_gluing.specs.Polygons.{HasSide, all_sides}
 use Rattle.fs_gluing.specs.Surface.{GluedPolygons, IsTranslationSurface}
 use Rattle.fs_gluing.specs.Vertices.{AreOneVertex, HoldsEast, IsConeNumber}
-use Rattle.fs_stratum.proofs.AxisSigns as axis
+use Rattle.fs_ring.proofs.AxisSigns as axis
 use Rattle.fs_stratum.proofs.SectorOfEast.{HasConvexSigns, convex_signs, raised-along}
 use Rattle.fs_stratum.proofs.CornerCounts.{count_zero}
 use Rattle.fs_gluing.proofs.Sides.AllSides.{in_all_sides}

@@ -1,7 +1,5 @@
 -- The proofs of fs_stratum.
-pub mod AxisSigns
 pub mod SectorOfEast
-pub mod CornerOrder
 pub mod CornerCounts
 pub mod RaisedRays
 pub mod ConeNumberPositive

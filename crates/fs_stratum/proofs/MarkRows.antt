@@ -1,4 +1,4 @@
--- Marks that stand one after another, seen as rows, one for each polygon: at first none is set, and then one after another.
+-- A list of marks, seen as rows of one length, a row for each polygon: reading a mark, setting one, and a list without any.
 use Rattle.std.proofs.Common.{◌≡◌, inl, inr, ℕ, zero, suc, ◌+◌, ◌-◌, ◌*◌, ◌<◌, ◌≤◌, Bool, true, false, Some, List, ◌∷◌, length, set, get_or, replicate, take, drop, unwrap_or, sym, ap, ◌∙◌, refl, subst, arith}
 use Rattle.std.proofs.Math.Nat.{mul-le-mul}
 use Rattle.std.proofs.Math.Seq.{take-set-lt}
@@ -47,7 +47,7 @@ module _ (marks : List (List Bool)) (c : Corner) (row : List Bool) (is : slice_g
     ]);
   }
 
--- ---- rows of marks that stand one after another
+-- ---- the rows of a list of marks
 
 rows_count : (n width : ℕ) (marks : List Bool) → length (rows n width marks) ≡ n
 unfolding rows

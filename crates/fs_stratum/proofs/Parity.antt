@@ -24,7 +24,7 @@ use Rattle.fs_gluing.proofs.SurfaceCalls.NextCorner.{has_before, in_polygon, nex
 use Rattle.fs_gluing.proofs.Base.Equality.{corner_eq, same_corner}
 use Rattle.fs_stratum.specs.declared.cones.Cone.{Cone}
 use Rattle.fs_stratum.specs.VertexList.{IsVertex, AreVertices, AreAscending}
-use Rattle.fs_stratum.proofs.CornerOrder.{less_trans}
+use Rattle.fs_gluing.proofs.Sides.CornerOrder.{less_trans}
 use Rattle.fs_gluing.proofs.Sides.AllSides.{corner, in_all_sides, all_sides_in, all_sides_distinct}
 use Rattle.fs_gluing.specs.SurfaceSides.{partner, partner_or}
 use Rattle.fs_gluing.proofs.Sides.PartnerSides.{pairs}

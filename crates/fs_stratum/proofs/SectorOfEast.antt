@@ -17,7 +17,7 @@ use Rattle.fs_quadratic.proofs.SquareRoot.{radicand_no_square}
 use Rattle.fs_quadratic.proofs.Signs.{sign-positive, sign-negative, sign-zero, sign-neg, positive_of_sign, zero_of_sign, negative_of_sign}
 use Rattle.fs_plane.specs.Vector.{vector_neg, cross, dot, norm, is_upper, upper_by_signs, is_raised, raised_by_signs, BendsNoRight, PlaneVector}
 use Rattle.fs_gluing.specs.Convex.{is_rise}
-use Rattle.fs_stratum.proofs.AxisSigns as axis
+use Rattle.fs_ring.proofs.AxisSigns as axis
 
 -- ---- two vectors by the signs of y and of x, the second left of the first
 

@@ -13,7 +13,7 @@ use Rattle.fs_gluing.specs.Surface.{GluedPolygons, IsTranslationSurface}
 use Rattle.fs_gluing.specs.Vertices.{AreOneVertex, HoldsEast, IsCount, IsConeNumber}
 use Rattle.fs_stratum.specs.declared.cones.Cone.{Cone}
 use Rattle.fs_stratum.specs.VertexList.{IsVertex, AreVertices, AreAscending}
-use Rattle.fs_stratum.proofs.CornerOrder.{less_of, not_less_itself, not_less_both_ways}
+use Rattle.fs_gluing.proofs.Sides.CornerOrder.{less_of, not_less_itself, not_less_both_ways}
 use Rattle.fs_gluing.proofs.Sides.AllSides.{corner, row_in, sides_from_in, in_all_sides, all_sides_in}
 use Rattle.fs_gluing.proofs.Sides.VertexOrbits.{has_one_vertex, one_vertex_self, one_vertex_trans, one_vertex_comm}
 use Rattle.fs_stratum.proofs.VerticesFound.{ascending_push, IsListed}

@@ -9,7 +9,7 @@ use Rattle.fs_gluing.specs.Surface.{GluedPolygons, IsTranslationSurface}
 use Rattle.fs_gluing.specs.Vertices.{AreOneVertex, IsCount, IsConeNumber}
 use Rattle.fs_stratum.specs.declared.cones.Cone.{Cone}
 use Rattle.fs_stratum.specs.VertexList.{IsVertex, AreVertices, AreAscending, IsGenus}
-use Rattle.fs_stratum.proofs.CornerOrder.{not_less_both_ways, corner_cases, not_less_itself}
+use Rattle.fs_gluing.proofs.Sides.CornerOrder.{not_less_both_ways, corner_cases, not_less_itself}
 use Rattle.fs_gluing.proofs.Sides.VertexOrbits.{one_vertex_comm}
 use Rattle.fs_stratum.proofs.Parity.{firsts, ascending_tail, ascending_less}
 

@@ -20,7 +20,7 @@ use Rattle.fs_stratum.specs.declared.cones.Cone.{Cone}
 use Rattle.fs_stratum.specs.VertexList.{IsVertex, AreAscending, AreVertices}
 use Rattle.fs_stratum.specs.CornerMarks.{is_marked, AreUnmarked, MarksVertex}
 use Rattle.fs_stratum.specs.VerticesFound.{AreFoundBefore}
-use Rattle.fs_stratum.proofs.CornerOrder.{less_of, of_less, to_next, here_next, next_cases, to_row}
+use Rattle.fs_gluing.proofs.Sides.CornerOrder.{less_of, of_less, to_next, here_next, next_cases, to_row}
 use Rattle.fs_gluing.proofs.Sides.AllSides.{corner}
 use Rattle.fs_gluing.proofs.Sides.VertexOrbits.{has_one_vertex, one_vertex_self, one_vertex_trans, one_vertex_comm}
 use Rattle.fs_stratum.proofs.VertexMarks.{not_both}

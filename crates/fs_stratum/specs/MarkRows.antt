@@ -1,4 +1,4 @@
--- Marks that stand one after another, cut into rows. Only proofs and inner calls of this crate cite it; the contract of `flat` doesn't rest on it.
+-- A list of marks, cut into rows of one length. Only proofs and inner calls of this crate cite it; the contract of `flat` doesn't rest on it.
 use Rattle.std.specs.Prelude.{ℕ, zero, suc, Bool, List, [], ◌∷◌, take, drop}
 
 -- so many rows, each of which has so many marks

@@ -1,6 +1,6 @@
 // The vertices of a surface with their cone numbers, and the genus.
 
-ghost use Rattle.std.specs.Prelude.{◌≡◌, ◌+◌, ◌<◌, ℕ, List, IfOk, OnOk, length, false};
+ghost use Rattle.std.specs.Prelude.{◌≡◌, ◌+◌, ◌<◌, ◌^◌, ℕ, List, IfOk, OnOk, length, sum_by, false};
 ghost use Rattle.fs_plane.specs.declared.corners.Corner.{Corner};
 ghost use Rattle.fs_gluing.specs.Polygons.{HasSide};
 ghost use Rattle.fs_gluing.specs.Surface.{GluedPolygons, IsSurface, IsTranslationSurface};
@@ -73,20 +73,24 @@ fn mark_vertex(surface: &Surface, first: Corner, marks: &mut CornerMarks) -> u32
     let field = surface.field();
     let mut k = 0;
     let mut corner = first;
+    let mut raised = surface.side(first).is_raised(field);
     while !marks.has(corner) {
         marks.mark(corner);
         let next = surface.turn(corner);
-        if !surface.side(corner).is_raised(field) && surface.side(next).is_raised(field) {
+        let next_raised = surface.side(next).is_raised(field);
+        if !raised && next_raised {
             k += 1;
         }
         corner = next;
+        raised = next_raised;
     }
     k
 }
 
-/// The genus of a surface with these vertices: 1 plus half the sum of k - 1.
+/// The genus of a surface with these vertices: 1 plus half the sum of k - 1. The surface may be larger than
+/// a `Surface`, but has fewer than 2^32 sides, which bounds that sum.
 pub fn genus(cones: &[Cone]) -> u32
-    requires { (s : GluedPolygons) × IsSurface s × AreVertices s cones.now }
+    requires { (s : GluedPolygons) × IsTranslationSurface s × (sum_by length s.polygons < 2 ^ 32) × AreVertices s cones.now }
     ensures { (s : GluedPolygons) → IsTranslationSurface s → AreVertices s cones.now → HasGenus s cones.now result }
 {
     let mut twice = 2;

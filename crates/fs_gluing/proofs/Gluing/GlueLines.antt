@@ -14,7 +14,7 @@ use Rattle.fs_gluing.specs.Polygons.{HasSide, at_side}
 use Rattle.fs_gluing.specs.FirstFault.{LineTest, sides_exist, glued_once, sides_opposite, AreOpposite, PassesLine, line_tests, of_line, stop_of}
 use Rattle.fs_gluing.specs.Gluing.{ArePartners}
 use Rattle.fs_gluing.specs.TestsInOrder.{PassesBefore, IsFirstStop}
-use Rattle.fs_gluing.proofs.Base.TestsInOrder.{passes_before_more, passes_before_same, first_stop_of_rest, first_stop_of_head, first_stop_of_prefix}
+use Rattle.fs_gluing.proofs.Base.TestsInOrder.{passes_before_none, passes_before_more, passes_before_same, first_stop_of_rest, first_stop_of_head, first_stop_of_prefix}
 use Rattle.fs_gluing.proofs.Gluing.Partners.{listed_has_partner, listed_from_partner}
 
 -- the stop of a test of a glue line
@@ -84,6 +84,13 @@ vectors_opposite a b v w is_a is_b h = let P : Option PlaneVector → Type 0 = A
 pub record PassesLinesUpTo (polygons : List (List PlaneVector)) (glues : List Glue) (i : ℕ) (p : Corner → Option Corner) : Type 0 where
   pub passed : PassesBefore (PassesLine polygons) (line_tests [] glues) (line_tests (take i glues) (drop i glues))
   pub partners : ArePartners (take i glues) p
+
+-- before the first line no side has a partner
+pub lines_none : (polygons : List (List PlaneVector)) (glues : List Glue) (p : Corner → Option Corner) → ((c : Corner) → p c ≡ None) → PassesLinesUpTo polygons glues 0 p
+lines_none polygons glues p none = record {
+  passed = passes_before_none _ _ _ refl;
+  partners = record { of_lines = tt; only = λ c e is. absurd (let lost : None ≡ Some e = sym (none c) ∙ is in cc) };
+}
 
 next_tests : (glues : List Glue) (i : ℕ) (g : Glue) → IsItem glues i g
     → line_tests (take i glues) (drop i glues) ≡ line_tests (take i glues) (g ∷ []) ++ line_tests (take (i + 1) glues) (drop (i + 1) glues)

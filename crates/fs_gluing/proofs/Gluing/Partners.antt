@@ -17,7 +17,7 @@ use Rattle.fs_gluing.specs.declared.shapes.Glue.{Glue}
 use Rattle.fs_gluing.specs.Shape.{glued_sides}
 use Rattle.fs_gluing.specs.FirstFault.{AreOpposite, PassesLine, glued_once}
 use Rattle.fs_gluing.specs.Gluing.{corner_cmp, IsPairOf, ArePartners}
-use Rattle.fs_gluing.proofs.Base.Equality.{vector_neg-vector_neg}
+use Rattle.fs_gluing.proofs.Base.Equality.{vector_neg-vector_neg, same_corner}
 
 -- corners that compare as equal are equal
 exact_corners : CmpEqualImpliesEq corner_cmp
@@ -35,12 +35,24 @@ equal_from_is_eq Greater e = cc
 pub record Puts (p q : Corner → Option Corner) (k v : Corner) : Type 0 where
   pub at : (c : Corner) → q c ≡ cond (is_at (corner_cmp k) c) (Some v) (p c)
 
-put_here : (p q : Corner → Option Corner) (k v : Corner) → Puts p q k v → q k ≡ Some v
-put_here p q k v s = s.at k ∙ ap (λ b. cond b (Some v) (p k)) (ap is_eq (tied_itself corners_total k))
-
 put_cases_by : (k v c : Corner) (o : Option Corner) (b : Bool) → is_at (corner_cmp k) c ≡ b → ((k ≡ c) × (cond b (Some v) o ≡ Some v)) ⊎ (cond b (Some v) o ≡ o)
 put_cases_by k v c o true e = inl (exact_corners k c (equal_from_is_eq _ e), refl)
 put_cases_by k v c o false e = inr refl
+
+put_at_itself : (p : Corner → Option Corner) (k v c : Corner) → c ≡ k → cond (is_at (corner_cmp k) c) (Some v) (p c) ≡ Some v
+put_at_itself p k v c same = ap (λ e. cond (is_at (corner_cmp k) e) (Some v) (p e)) same ∙ ap (λ b. cond b (Some v) (p k)) (ap is_eq (tied_itself corners_total k))
+
+-- q gives k the partner v, and to each other corner what p gives it
+pub puts_by : (p q : Corner → Option Corner) (k v : Corner) → q k ≡ Some v → ((c : Corner) → c ≢ k → q c ≡ p c) → Puts p q k v
+puts_by p q k v here others = record {
+  at = λ c. elim (put_cases_by k v c (p c) (is_at (corner_cmp k) c) refl) [
+    | inl h ↦ ap q (sym h.0) ∙ here ∙ sym h.1
+    | inr h ↦ elim (same_corner c k) [ inl same ↦ ap q same ∙ here ∙ sym (put_at_itself p k v c same) | inr apart ↦ others c apart ∙ sym h ]
+  ];
+}
+
+put_here : (p q : Corner → Option Corner) (k v : Corner) → Puts p q k v → q k ≡ Some v
+put_here p q k v s = s.at k ∙ ap (λ b. cond b (Some v) (p k)) (ap is_eq (tied_itself corners_total k))
 
 put_cases : (p q : Corner → Option Corner) (k v : Corner) → Puts p q k v → (c : Corner) → ((k ≡ c) × (q c ≡ Some v)) ⊎ (q c ≡ p c)
 put_cases p q k v s c = elim (put_cases_by k v c (p c) (is_at (corner_cmp k) c) refl) [ inl h ↦ inl (h.0, s.at c ∙ h.1) | inr h ↦ inr (s.at c ∙ h) ]

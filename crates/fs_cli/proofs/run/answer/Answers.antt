@@ -17,7 +17,7 @@ returns-in-Ok-build g c =
     let law : JobLaw = record { one_job = c.job_or_fault.ensures.one_job; one_fault = c.job_or_fault.ensures.one_fault; not_both = c.job_or_fault.ensures.not_both; not_neither = c.job_or_fault.ensures.not_neither } in
     let judged = subst (λ (shape : Shape). IsBuildResult c.in-Ok.job.field.d shape (Ok c.in-Ok-build.surface)) (c.form_shape.ensures ∙ shape_of_draft c.in-Ok.job c.in-Ok.ensures.unmarked) c.in-Ok-build.ensures.outcome in
     writes_texts _ _ _ _ _ law c.args.budget c.args.bytes.now c.requires.few (job_draft c.in-Ok.job) c.in-Ok-build.surface c.in-Ok.ensures.job judged.0 judged.1 judged.2
-    (writes_commands _ _ _ _ _ c.in-Ok-build.surface c.args.budget _ _ c.as_slice.ensures c.answer_all.ensures)
+    (writes_commands _ _ _ _ _ c.in-Ok-build.surface c.args.budget _ _ c.as_slice.ensures c.answer_commands.ensures)
 
 pub returns-in-Err-Fault-build : goal.returns-in-Err-Fault-build
 returns-in-Err-Fault-build g c =

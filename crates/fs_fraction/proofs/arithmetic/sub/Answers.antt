@@ -2,7 +2,7 @@ use Rattle.std.proofs.Common.{subst}
 use Rattle.std.specs.Result.{OkIff}
 use Rattle.fs_lists.proofs.Results.{ok_value}
 use Rattle.fs_fraction.specs.Fraction.{Fraction}
-use Rattle.fs_fraction.specs.Arithmetic.{sum, negated, SumFits}
+use Rattle.fs_fraction.specs.Arithmetic.{sum, SumFits}
 use Rattle.fs_fraction.proofs.ExactResults.{difference_exact}
 use Rattle.fs_fraction.proofs.arithmetic.sub.Goals as goal
 

@@ -1,6 +1,4 @@
-use Rattle.std.proofs.Common.{◌≡◌, ◌%◌}
 use Rattle.fs_fraction.proofs.Divisors.{gcd-of_zero, gcd-of_rest}
-use Rattle.fs_fraction.specs.Divisor.{gcd}
 use Rattle.fs_fraction.proofs.divisor.divisor_of_narrow.Goals as goal
 
 pub returns-then-b-eq0 : goal.returns-then-b-eq0

@@ -1,4 +1,3 @@
-use Rattle.std.proofs.Common.{◌≡◌}
 use Rattle.std.proofs.lemmas.Nat.Gcd.{IsGcd-from_zero, IsGcd-from_mod, same_from_IsGcd}
 use Rattle.fs_fraction.proofs.Divisors.{gcd-is}
 use Rattle.fs_fraction.proofs.divisor.narrow_divisor.Goals as goal

@@ -1,13 +1,13 @@
 -- The steps of `build` in their order: each stops with the first failed test of the shape, or passes.
 use Rattle.std.proofs.Common.{◌≡◌, ◌⊎◌, List, [], subst}
-use Rattle.std.specs.BTreeMap.{get}
 use Rattle.std.specs.List.{AllByRecursion}
 use Rattle.fs_lists.proofs.Results.{at_exit}
 use Rattle.fs_gluing.specs.declared.shapes.Glue.{Glue}
 use Rattle.fs_gluing.specs.declared.faults.BuildStop.TheVariants.{NoMemory}
 use Rattle.fs_gluing.specs.TestsInOrder.{IsFirstStop}
 use Rattle.fs_gluing.specs.FirstFault.{IsBuildResult, PassesLine, line_tests}
-use Rattle.fs_gluing.specs.Gluing.{corner_cmp, ArePartners}
+use Rattle.fs_gluing.specs.Gluing.{ArePartners}
+use Rattle.fs_gluing.specs.PartnerTable.{partner_of}
 use Rattle.fs_gluing.proofs.Scale.ScalingInTurn.{den_passed}
 use Rattle.fs_gluing.proofs.Gluing.GluedPolygons.{paired_by}
 use Rattle.fs_gluing.proofs.Gluing.GlueLines.{line_stop}
@@ -27,7 +27,7 @@ scaled_in c = scaled_shape c.args.field.d c.args.shape.now _ _ c.requires c.in_o
 -- and its glued polygons
 abbrev glued_of : (c : In_ok-glued) → GluedShape (scaled_in c)
 glued_of c = record {
-  partner = get corner_cmp c.in_ok-partners.partners;
+  partner = partner_of c.in_ok-partners.partners;
   rows = c.in_ok-glued.glued;
   paired = paired_by c.args.shape.now.straight c.args.field.d c.in_ok-scaled.scaled.polygons _ _ _ c.as_slice.ensures c.in_ok-positions.ensures.passed c.in_ok-partners.ensures.passed c.in_ok-partners.ensures.paired c.in_ok-glued.ensures.passed;
   rows_are = c.in_ok-glued.ensures.glued;
@@ -41,6 +41,9 @@ returns-in_err-scaled c =
 
 pub check_polygons-requires-clause-short : goal.check_polygons-requires-clause-short
 check_polygons-requires-clause-short c = short (scaled_of (goal.at.check_polygons-requires-clause-short c).In_ok-scaled)
+
+pub pair_sides-requires-clause-short : goal.pair_sides-requires-clause-short
+pair_sides-requires-clause-short c = short (scaled_of (goal.at.pair_sides-requires-clause-short c).In_ok-scaled)
 
 pub glue_polygons-requires-clause-short : goal.glue_polygons-requires-clause-short
 glue_polygons-requires-clause-short c = short (scaled_of (goal.at.glue_polygons-requires-clause-short c).In_ok-scaled)
@@ -64,7 +67,7 @@ returns-in_err-partners c =
 pub returns-in_err-glued : goal.returns-in_err-glued
 returns-in_err-glued c =
     let s = scaled_of (goal.at.returns-in_err-glued c).In_ok-scaled in
-    let p = get corner_cmp c.in_ok-partners.partners in
+    let p = partner_of c.in_ok-partners.partners in
     let lines = subst (λ (gs : List Glue). AllByRecursion (PassesLine c.in_ok-scaled.scaled.polygons) (line_tests [] gs)) c.as_slice.ensures c.in_ok-partners.ensures.passed in
     let partners = subst (λ (gs : List Glue). ArePartners gs p) c.as_slice.ensures c.in_ok-partners.ensures.paired in
     let outcome = at_exit (IsBuildResult c.args.field.d c.args.shape.now) c.from_residual-in_err-glued.result c.in_err-glued.field-0.0 c.from_residual-in_err-glued.ensures.1

@@ -1,5 +1,5 @@
 -- The vertices that were found have the genus that is counted.
-use Rattle.std.proofs.Common.{sym, subst}
+use Rattle.std.proofs.Common.{sym, subst, arith}
 use Rattle.fs_stratum.specs.VertexList.{AreVertices}
 use Rattle.fs_report.proofs.StratumText.{all_spelled}
 use Rattle.fs_report.proofs.stratum.whole_text.Goals as goal
@@ -7,7 +7,8 @@ use Rattle.fs_report.proofs.stratum.whole_text.Goals as goal
 pub genus-requires : goal.genus-requires
 genus-requires c =
     let found = c.in_ok-cones.ensures in
-    (c.args.surface.now, found.surface, subst (AreVertices c.args.surface.now) (sym c.as_slice-cones.ensures) found.cones)
+    let few = found.surface.sides in
+    (c.args.surface.now, found.surface.surface, omega arith, subst (AreVertices c.args.surface.now) (sym c.as_slice-cones.ensures) found.cones)
 
 pub returns : goal.returns
 returns c =

@@ -7,7 +7,7 @@ use Rattle.fs_stratum.proofs.GenusExists.{genus_exists}
 use Rattle.fs_stratum.proofs.cones.genus.Goals as goal
 
 pub loop-cone-init : goal.loop-cone-init
-loop-cone-init c = let s = c.requires in (refl, (s.0, s.1, genus_exists s.0 s.1.surface c.args.cones.now s.2))
+loop-cone-init c = let s = c.requires in (refl, (s.0, s.2, genus_exists s.0 s.1 c.args.cones.now s.3))
 
 pub returns : goal.returns
 returns c s surface are =

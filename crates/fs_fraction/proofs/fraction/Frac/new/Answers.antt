@@ -1,4 +1,4 @@
-use Rattle.std.proofs.Common.{◌≡◌, ◌∙◌, sym, subst, rules, arith}
+use Rattle.std.proofs.Common.{◌≡◌, ◌∙◌, sym, subst, rules}
 use Rattle.std.specs.Prelude.{unsigned_abs}
 use Rattle.fs_fraction.specs.Fraction.{Fraction, HasValue, reduced}
 use Rattle.fs_fraction.proofs.Lowest.{reduced-value}

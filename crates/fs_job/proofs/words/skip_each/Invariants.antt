@@ -1,7 +1,7 @@
 use Rattle.std.proofs.Common.{◌≡◌, true, take}
 use Rattle.std.specs.List.{AllByRecursion}
 use Rattle.fs_job.specs.Pieces.{is_blank}
-use Rattle.fs_job.proofs.words.skip_blanks.Given as goal
+use Rattle.fs_job.proofs.words.skip_each.Given as goal
 
 -- each byte so far is a space or a tab
 abbrev pub invariant-loop-i : goal.invariant-loop-i
