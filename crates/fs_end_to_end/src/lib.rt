@@ -6,6 +6,8 @@ mod jobs;
 #[cfg(test)]
 mod running;
 #[cfg(test)]
+mod segments;
+#[cfg(test)]
 mod strata;
 #[cfg(test)]
 mod surfaces;

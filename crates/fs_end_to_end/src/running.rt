@@ -50,13 +50,29 @@ pub fn sink(rt: &impl Abort, alloc: Global, room: usize, failing: Vec<u64>) -> M
     MemSink::new(alloc, room, failing).expect(rt, "memory")
 }
 
-// That a job is answered with these lines, and with the status that belongs to them.
-pub fn expect_answer(rt: &impl Abort, alloc: Global, job: Vec<u8>, answer: &str) {
+// The words of a command line.
+pub fn words_of(rt: &impl Abort, alloc: Global, texts: &[&str]) -> Vec<String> {
+    let mut words = Vec::new(alloc);
+    for text in texts.iter() {
+        let word = text.to_string(alloc).expect(rt, "memory");
+        words.push(word).expect(rt, "memory");
+    }
+    words
+}
+
+// That a job is answered with these lines under these words, and with the status that belongs to the lines.
+pub fn expect_by_words(rt: &impl Abort, alloc: Global, texts: &[&str], job: Vec<u8>, answer: &str) {
+    let words = words_of(rt, alloc, texts);
     let mut input = MemSource::new(job, 64, Vec::new(alloc));
     let mut out = sink(rt, alloc, 8192, Vec::new(alloc));
-    let status = flat(alloc, &[], &mut input, &mut out);
+    let status = flat(alloc, &words, &mut input, &mut out);
     assert!(rt; out.held() == answer.as_bytes(), "{answer}");
     assert!(rt; status == status_of(answer), "{answer}");
+}
+
+// That a job is answered with these lines, and with the status that belongs to them.
+pub fn expect_answer(rt: &impl Abort, alloc: Global, job: Vec<u8>, answer: &str) {
+    expect_by_words(rt, alloc, &[], job, answer);
 }
 
 // That the unit square's job, with this text in place of one of its lines, is answered with
@@ -89,7 +105,7 @@ pub fn expect_lines(
 fn status_of(answer: &str) -> Status {
     if answer.starts_with("refused ") {
         Status::Refused
-    } else if answer.contains(" overflow ") {
+    } else if answer.contains(" overflow ") || answer.contains(" undecided ") {
         Status::Partial
     } else {
         Status::Done

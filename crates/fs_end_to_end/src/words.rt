@@ -1,6 +1,6 @@
 // The words after the program's name: which are admitted, and that all others change nothing.
 
-use crate::running::{sink, square_with};
+use crate::running::{sink, square_with, words_of};
 use fs_cli::{Status, flat};
 use fs_io::{MemSink, MemSource};
 use std::alloc::Global;
@@ -68,16 +68,6 @@ static REFUSED: [&[&str]; 44] = [
     &["--staircase", "3", "--seed", "1"],
     &["--steps=5", "--staircase=3", "--seed=1"],
 ];
-
-// The words of a command line.
-fn words_of(rt: &impl Abort, alloc: Global, texts: &[&str]) -> Vec<String> {
-    let mut words = Vec::new(alloc);
-    for text in texts.iter() {
-        let word = text.to_string(alloc).expect(rt, "memory");
-        words.push(word).expect(rt, "memory");
-    }
-    words
-}
 
 // How a run over the unit square's job ends, with these words.
 fn run(rt: &impl Abort, alloc: Global, texts: &[&str]) -> (Status, MemSource, MemSink) {
