@@ -1,11 +1,11 @@
 -- How a path begins at a corner says where its vector is in the corner's sector.
-use Rattle.std.proofs.Common.{◌≡◌, ◌≢◌, ℕ, Bool, true, false, if◌then◌else◌, Result, Ok, Err, IsTrue, ◌↔◌, refl, sym, ap, ◌∙◌, subst}
+use Rattle.std.proofs.Common.{◌≡◌, ◌≢◌, ℕ, Bool, true, false, if◌then◌else◌, Result, Ok, IsTrue, ◌↔◌, refl, sym, ap, ◌∙◌, subst}
 use Rattle.std.specs.Ordering.{is_lt}
 use Rattle.std.specs.declared.cmp.Ordering.{Ordering}
 use Rattle.std.specs.declared.cmp.Ordering.TheVariants.{Less, Equal, Greater}
 use Rattle.fs_ring.specs.Direction.{IsAlong, at_start, inside}
 use Rattle.fs_quadratic.specs.Radicand.{IsRadicand}
-use Rattle.fs_quadratic.specs.Ring.{Quadratic, quadratic, zero, sign, compare, IsPositive, IsLess}
+use Rattle.fs_quadratic.specs.Ring.{Quadratic, quadratic, sign, compare, IsPositive, IsLess}
 use Rattle.fs_quadratic.specs.Checked.{◌>>=◌}
 use Rattle.fs_quadratic.specs.declared.steps.Place.{Place}
 use Rattle.fs_quadratic.proofs.SquareRoot.{radicand_no_square}

@@ -1,5 +1,5 @@
 -- What a path finds at a corner says where the corner is, and whether the path comes so far.
-use Rattle.std.proofs.Common.{◌≡◌, ◌≢◌, ◌⊎◌, ℕ, ◌+◌, ◌*◌, Bool, true, false, if◌then◌else◌, [], ◌∷◌, Result, Ok, Err, refl, sym, ap, ◌∙◌, subst, inl, inr}
+use Rattle.std.proofs.Common.{◌≡◌, ◌≢◌, ◌⊎◌, ℕ, ◌+◌, ◌*◌, Bool, true, false, if◌then◌else◌, [], ◌∷◌, Result, Ok, refl, sym, ap, ◌∙◌, subst, inl, inr}
 use Rattle.std.specs.Ordering.{is_lt}
 use Rattle.std.specs.declared.cmp.Ordering.{Ordering}
 use Rattle.std.specs.declared.cmp.Ordering.TheVariants.{Less, Equal, Greater}
@@ -8,11 +8,11 @@ use Rattle.fs_ring.specs.Vector as plane
 use Rattle.fs_ring.proofs.Directions as directions
 use Rattle.fs_ring.proofs.Solver.{expressions as E, ◌≐◌}
 use Rattle.fs_quadratic.specs.Radicand.{IsRadicand}
-use Rattle.fs_quadratic.specs.Ring.{Quadratic, quadratic, zero, neg, sign, compare, IsPositive, IsLess}
+use Rattle.fs_quadratic.specs.Ring.{quadratic, zero, neg, sign, compare, IsPositive, IsLess}
 use Rattle.fs_quadratic.specs.Checked.{◌>>=◌}
 use Rattle.fs_quadratic.specs.declared.steps.Place.{Place}
 use Rattle.fs_quadratic.proofs.SquareRoot.{radicand_no_square}
-use Rattle.fs_quadratic.proofs.Signs.{sign-negative, sign-positive, negative_of_sign, positive_of_sign, zero_of_sign, less_iff_less}
+use Rattle.fs_quadratic.proofs.Signs.{sign-negative, negative_of_sign, positive_of_sign, zero_of_sign, less_iff_less}
 use Rattle.fs_quadratic.proofs.Laws.{field_order}
 use Rattle.fs_plane.specs.Vector.{PlaneVector, vector_add, cross, dot, is_same_vector}
 use Rattle.fs_plane.specs.Formulas.{cross_after, dot_after, norm_after, vector_sum_after, vector_difference_after}
@@ -21,7 +21,6 @@ use Rattle.fs_plane.proofs.ComputedSigns.{after_value}
 use Rattle.fs_plane.proofs.EqualVectors.{Decides-is_same_vector}
 use Rattle.fs_develop.specs.declared.looking.Finding.{Finding}
 use Rattle.fs_develop.specs.declared.looking.Finding.TheVariants.{RightOfPath, Last}
-use Rattle.fs_develop.specs.declared.looking.Departure.{Departure}
 use Rattle.fs_develop.specs.declared.looking.Departure.TheVariants.{EndsAtCorner, MeetsCorner, EndsBefore, Crosses}
 use Rattle.fs_develop.specs.Looking.{look, look_at_corner, look_at_side, by_side}
 use Rattle.fs_develop.proofs.Values.{sum_value, difference_value, less_of, not_less_of}
@@ -61,7 +60,7 @@ module _ {d : ℕ} (radicand : IsRadicand d) (t : ℕ) (v from side : PlaneVecto
 
   on_line_by_sameness : (same : Bool) → is_same_vector corner v ≡ same → cross d v corner ≡ zero → (f : Finding)
       → (if same then Ok (Last EndsAtCorner) else
-          (dot_after 6000 d v corner >>= (λ reach. norm_after 6003 d v >>= (λ length. Ok (Last (if is_lt (compare d reach length) then MeetsCorner else EndsBefore)))))) ≡ Ok f → Says f
+      (dot_after 6000 d v corner >>= (λ reach. norm_after 6003 d v >>= (λ length. Ok (Last (if is_lt (compare d reach length) then MeetsCorner else EndsBefore)))))) ≡ Ok f → Says f
   on_line_by_sameness true s z f e = subst Says (same_finding e) (z, (Decides-is_same_vector corner v).0 s)
   on_line_by_sameness false s z f e =
       let first = after_value (dot_after 6000 d v corner) (λ reach. norm_after 6003 d v >>= (λ length. Ok (Last (if is_lt (compare d reach length) then MeetsCorner else EndsBefore)))) f e in

@@ -1,5 +1,5 @@
 -- A path that was followed to a spot, with the word of the sides that it crossed.
-use Rattle.std.proofs.Common.{◌≡◌, ℕ, Bool, List, [], ◌∷◌, ◌++◌, Result, Ok, Err, refl, sym, subst}
+use Rattle.std.proofs.Common.{◌≡◌, Bool, List, [], ◌∷◌, ◌++◌, Result, Ok, Err, refl, sym, subst}
 use Rattle.fs_quadratic.specs.Ring.{Quadratic}
 use Rattle.fs_quadratic.specs.declared.steps.Place.{Place}
 use Rattle.fs_plane.specs.declared.corners.Corner.{Corner}
@@ -51,8 +51,8 @@ module _ (s : GluedPolygons) (v : PlaneVector) (MayCross : List Corner → Corne
     spot = crossed_is_spot s surface v to spot e;
     onward = λ r k.
         h.onward r (follows_passed s.d G v MayCross passes
-          (goes_on word (word ++ to.side ∷ []) to (past_side G to) r
-            (subst (λ f. GoesOn s.d G v MayCross word to f (word ++ to.side ∷ []) (past_side G to)) (sym e) (may, refl, refl)) k));
+        (goes_on word (word ++ to.side ∷ []) to (past_side G to) r
+        (subst (λ f. GoesOn s.d G v MayCross word to f (word ++ to.side ∷ []) (past_side G to)) (sym e) (may, refl, refl)) k));
   }
 
 -- a site that is returned as the reason of a stop

@@ -1,5 +1,5 @@
 -- Where a path is in a polygon: at a side that comes from its right, from spot to spot.
-use Rattle.std.proofs.Common.{◌≡◌, ◌⊎◌, ℕ, Bool, zero, suc, ◌+◌, ◌≤◌, [], ◌∷◌, Ok, refl, sym, ap, ◌∙◌, subst, inl, inr, arith}
+use Rattle.std.proofs.Common.{◌≡◌, ◌⊎◌, ℕ, Bool, zero, suc, ◌≤◌, [], ◌∷◌, Ok, refl, sym, ap, ◌∙◌, subst, inl, inr, arith}
 use Rattle.fs_cycles.proofs.Iterates.{iterate_after}
 use Rattle.fs_ring.specs.Vector.{add_vector, neg_vector}
 use Rattle.fs_ring.specs.OrderedRing.{IsOrderedRing}
@@ -20,7 +20,6 @@ use Rattle.fs_paths.specs.Development.{IsPutAt}
 use Rattle.fs_paths.specs.StraightPaths.{Crosses}
 use Rattle.fs_paths.specs.Passages.{ComesInto, begins, enters}
 use Rattle.fs_paths.proofs.Developments as developments
-use Rattle.fs_paths.proofs.Passages as passages
 use Rattle.fs_develop.specs.declared.looking.Finding.TheVariants.{RightOfPath, Last}
 use Rattle.fs_develop.specs.declared.looking.Departure.TheVariants.{Crosses as DepartsAcross}
 use Rattle.fs_develop.specs.declared.spots.Spot.{Spot}

@@ -1,5 +1,5 @@
 -- The end to which a path is followed is its end in the sense of straight paths.
-use Rattle.std.proofs.Common.{◌≡◌, ◌≢◌, ◌⊎◌, ℕ, Bool, List, [], ◌∷◌, ◌++◌, Result, Ok, Err, refl, sym, ap, ◌∙◌, subst, inl, inr, arith}
+use Rattle.std.proofs.Common.{◌≡◌, ◌≢◌, ℕ, Bool, List, [], ◌∷◌, ◌++◌, Result, Ok, Err, refl, sym, ◌∙◌, subst, inl, inr, arith}
 use Rattle.fs_ring.specs.OrderedRing.{IsOrderedRing, IsLess}
 use Rattle.fs_ring.specs.Vector.{zero_vector, norm}
 use Rattle.fs_ring.specs.Vector as plane
@@ -35,7 +35,7 @@ use Rattle.fs_develop.specs.declared.looking.Finding.{Finding}
 use Rattle.fs_develop.specs.declared.looking.Finding.TheVariants.{RightOfPath, Last}
 use Rattle.fs_develop.specs.declared.looking.Departure.TheVariants as departures
 use Rattle.fs_develop.specs.declared.spots.Spot.{Spot}
-use Rattle.fs_develop.specs.Following.{first_entry, first_spot, past_corner, past_side, next_finding, EndsAt, GoesOn, FollowsTo, ends, goes_on, BeginsWith, LeadsTo}
+use Rattle.fs_develop.specs.Following.{first_entry, first_spot, next_finding, EndsAt, GoesOn, FollowsTo, ends, goes_on, BeginsWith, LeadsTo}
 use Rattle.fs_develop.specs.Spots.{IsSpotIn}
 use Rattle.fs_develop.proofs.Findings.{finding_says}
 use Rattle.fs_develop.proofs.Entries.{entry_says}
@@ -124,9 +124,16 @@ module _ {d : ℕ} (radicand : IsRadicand d) {is_ahead : PlaneVector → PlaneVe
               directions.positive_by_plane L [] (v ∷ at.from ∷ G.vector at.side ∷ [])
               (λ v q u. plane.cross E (plane.sub_vector E v q) u ≐ E.neg (plane.cross E u (plane.sub_vector E v q))) refl n
       ends_means (Ok (Last departures.Crosses)) e r h a s =
-          subst Means (same_end (sym h.1 ∙ s))
-          (on.allowed, (at.side, G.twin at.side, corner, h.0,
-            words.reaches_one_more R (IsPositive d) G v c word strict on.reached (spot_put radicand test g v on.in_polygon) (spot_crosses radicand test g v on.in_polygon on.comes e)))
+          subst Means (same_end (sym h.1 ∙ s)) (
+            on.allowed,
+            (
+              at.side,
+              G.twin at.side,
+              corner,
+              h.0,
+              words.reaches_one_more R (IsPositive d) G v c word strict on.reached (spot_put radicand test g v on.in_polygon) (spot_crosses radicand test g v on.in_polygon on.comes e),
+            ),
+          )
 
       onward : (found : Result Finding Place) → next_finding d G v at ≡ found → (word' : List Corner) (at' : Spot) → GoesOn d G v MayCross word at found word' at' → IsOnPath word' at'
       onward (Err stop) e word' at' h = absurd h
@@ -161,9 +168,11 @@ module _ {d : ℕ} (radicand : IsRadicand d) {is_ahead : PlaneVector → PlaneVe
   begins_means (Ok Outside) e r h a s = subst Means (same_end (sym h ∙ s)) (entry_says radicand (G.vector c) (G.vector (G.prev c)) v Outside e)
   begins_means (Ok WholeSide) e r h a s =
       let says = entry_says radicand (G.vector c) (G.vector (G.prev c)) v WholeSide e in
-      subst Means (same_end (sym h ∙ s))
-      (none_allowed, subst (λ w. IsSegment R (IsPositive d) G c [] w (G.next c)) (sym says.1)
-        (along_side.segment_along_side L test g c is_corner (directions.dot_positive-ne-zero_left L says.0.same_way)))
+      subst Means (same_end (sym h ∙ s)) (
+        none_allowed,
+        subst (λ w. IsSegment R (IsPositive d) G c [] w (G.next c)) (sym says.1)
+            (along_side.segment_along_side L test g c is_corner (directions.dot_positive-ne-zero_left L says.0.same_way)),
+      )
   begins_means (Ok WithinSide) e r h a s =
       let says = entry_says radicand (G.vector c) (G.vector (G.prev c)) v WithinSide e in
       subst Means (same_end (sym h ∙ s)) (none_allowed, along_side.inside_along_side L test g is_corner says.0 says.1)

@@ -1,8 +1,8 @@
 -- Where a path is in a polygon of a surface, from its start on.
-use Rattle.std.proofs.Common.{◌≡◌, ℕ, ◌+◌, ◌<◌, ◌≤◌, List, length, Result, Ok, Err, refl, sym, ap, ◌∙◌, subst, arith}
+use Rattle.std.proofs.Common.{◌≡◌, ℕ, ◌<◌, ◌≤◌, List, length, Result, Ok, refl, sym, subst, arith}
 use Rattle.fs_lists.proofs.All.{All-slice_get}
 use Rattle.fs_lists.proofs.Sums.{each_length}
-use Rattle.fs_quadratic.specs.Ring.{Quadratic, quadratic}
+use Rattle.fs_quadratic.specs.Ring.{Quadratic}
 use Rattle.fs_plane.specs.declared.corners.Corner.{Corner}
 use Rattle.fs_plane.specs.declared.sites.Site.{Site}
 use Rattle.fs_plane.specs.Vector.{PlaneVector, vector_zero}

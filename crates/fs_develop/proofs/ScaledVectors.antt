@@ -1,5 +1,5 @@
 -- Vectors of a job times a multiple of their denominators.
-use Rattle.std.proofs.Common.{◌≡◌, ◌↔◌, ℕ, pos, ◌+◌, ◌*ℤ◌, ◌%◌, ◌/◌, ◌==◌, Bool, true, false, Result, Ok, Err, IsTrue, None, Some, ℤ, unsigned_abs, refl, sym, ap, ◌∙◌, subst, inl, inr, ◌<◌, ◌<ℤ◌, arith}
+use Rattle.std.proofs.Common.{◌≡◌, ◌↔◌, ℕ, pos, ◌+◌, ◌*ℤ◌, ◌%◌, ◌/◌, ◌==◌, Result, Ok, Err, IsTrue, None, Some, ℤ, unsigned_abs, refl, sym, ap, ◌∙◌, subst, inl, inr, ◌<◌, ◌<ℤ◌, arith}
 use Rattle.std.proofs.lemmas.Int.{ints}
 use Rattle.fs_ring.proofs.Integers.{integer_order}
 use Rattle.fs_ring.proofs.Signs as signs
@@ -7,7 +7,6 @@ use Rattle.fs_quadratic.specs.Ring as ring
 use Rattle.fs_fraction.proofs.Divisors.{quotient_positive}
 use Rattle.std.specs.Int.{◌∣◌}
 use Rattle.std.proofs.lemmas.Nat.Gcd.{dvd_of_mod-eq-zero, mod-eq-zero_of_dvd}
-use Rattle.std.specs.Bool.{Decides}
 use Rattle.std.proofs.lemmas.Bool.Decides.{Decides-eqb}
 use Rattle.fs_quadratic.specs.Ring.{Quadratic}
 use Rattle.fs_quadratic.specs.Checked.{step, ◌>>=◌}

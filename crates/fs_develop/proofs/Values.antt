@@ -1,10 +1,10 @@
 -- The values that checked sums and differences of vectors give, and tests of an order.
-use Rattle.std.proofs.Common.{◌≡◌, ◌≢◌, ℕ, ◌+◌, Bool, true, false, Result, Ok, Err, refl, sym, ap, ◌∙◌}
+use Rattle.std.proofs.Common.{◌≡◌, ◌≢◌, ℕ, ◌+◌, Bool, true, false, Result, Ok, refl, ap, ◌∙◌}
 use Rattle.std.specs.Ordering.{is_lt}
 use Rattle.std.specs.declared.cmp.Ordering.{Ordering}
 use Rattle.std.specs.declared.cmp.Ordering.TheVariants.{Less, Equal, Greater}
 use Rattle.fs_quadratic.specs.Ring.{Quadratic, add, sub, quadratic}
-use Rattle.fs_quadratic.specs.Checked.{step, ◌>>=◌, checked_sum, checked_difference}
+use Rattle.fs_quadratic.specs.Checked.{step, ◌>>=◌}
 use Rattle.fs_quadratic.specs.Width.{is_fitting}
 use Rattle.fs_quadratic.specs.declared.steps.Place.{Place}
 use Rattle.fs_ring.specs.Vector.{sub_vector}

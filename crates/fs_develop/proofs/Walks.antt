@@ -1,6 +1,5 @@
 -- The end that a walk finds is the only end of its path, and the check of a word tells whether the path is a segment with that word.
-use Rattle.std.proofs.Common.{◌≡◌, ◌≢◌, ◌⊎◌, ◌↔◌, ℕ, Bool, zero, suc, ◌+◌, ◌<◌, ◌≤◌, List, [], ◌∷◌, ◌++◌, length, Result, Ok, Err, IfOk, IsTrue, refl, sym, ap, ◌∙◌, subst, inl, inr, arith, length-append, append_assoc, append-nil}
-use Rattle.fs_quadratic.specs.Ring.{quadratic, IsPositive}
+use Rattle.std.proofs.Common.{◌≡◌, ◌↔◌, ℕ, Bool, suc, ◌+◌, ◌≤◌, List, [], ◌∷◌, ◌++◌, length, Result, Ok, Err, IfOk, IsTrue, refl, sym, ap, ◌∙◌, subst, arith, length-append, append_assoc, append-nil}
 use Rattle.fs_plane.specs.declared.corners.Corner.{Corner}
 use Rattle.fs_plane.specs.Vector.{PlaneVector}
 use Rattle.fs_paths.specs.Ends.{PathEnd, outside_sector, segment, corner_before_end, ends_inside, longer}

@@ -1,6 +1,6 @@
 -- How a straight path begins at a corner, as a checked computation.
-use Rattle.std.specs.Prelude.{ℕ, ◌+◌, Bool, if◌then◌else◌, Result, Ok}
-use Rattle.std.specs.Ordering.{is_gt, is_lt}
+use Rattle.std.specs.Prelude.{ℕ, if◌then◌else◌, Result, Ok}
+use Rattle.std.specs.Ordering.{is_lt}
 use Rattle.std.specs.declared.cmp.Ordering.{Ordering}
 use Rattle.std.specs.declared.cmp.Ordering.TheVariants.{Less, Equal, Greater}
 use Rattle.fs_quadratic.specs.Ring.{sign, compare}
@@ -29,9 +29,9 @@ unfoldable pub enter : ℕ → PlaneVector → PlaneVector → PlaneVector → R
 enter d outgoing incoming v = do
   turn ← cross_after 0 d outgoing v
   by_turn (sign d turn)
-    (do
-      ahead ← is_above_zero d (dot_after 3 d outgoing v)
-      if ahead then enter_along d outgoing v else Ok Outside)
-    (do
-      inside ← is_above_zero d (cross_after 6 d v (vector_neg incoming))
-      Ok (if inside then Inside else Outside))
+      (do
+        ahead ← is_above_zero d (dot_after 3 d outgoing v)
+        if ahead then enter_along d outgoing v else Ok Outside)
+      (do
+        inside ← is_above_zero d (cross_after 6 d v (vector_neg incoming))
+        Ok (if inside then Inside else Outside))

@@ -1,5 +1,5 @@
 -- The vectors that a job gives, times the denominator of a surface.
-use Rattle.std.specs.Prelude.{◌≡◌, ℕ, ℤ, pos, ◌+◌, ◌/◌, ◌*ℤ◌, Option, None, Some, Result, Ok, Err, unsigned_abs}
+use Rattle.std.specs.Prelude.{◌≡◌, ℕ, pos, ◌+◌, ◌/◌, ◌*ℤ◌, Option, None, Some, Result, Ok, Err, unsigned_abs}
 use Rattle.fs_quadratic.specs.Ring.{Quadratic}
 use Rattle.fs_quadratic.specs.Checked.{step, ◌>>=◌}
 use Rattle.fs_quadratic.specs.Width.{is_in_width}

@@ -1,6 +1,6 @@
 -- What a walk along a straight path returns.
-use Rattle.std.specs.Prelude.{◌≡◌, ℕ, ◌<◌, ◌↔◌, Bool, IsTrue, List, [], ◌∷◌, ◌++◌, length, Result, Ok, Err}
-use Rattle.fs_quadratic.specs.Ring.{Quadratic, quadratic, IsPositive}
+use Rattle.std.specs.Prelude.{◌≡◌, ℕ, ◌<◌, ◌↔◌, Bool, IsTrue, List, ◌∷◌, ◌++◌, length, Result, Ok, Err}
+use Rattle.fs_quadratic.specs.Ring.{quadratic, IsPositive}
 use Rattle.fs_plane.specs.declared.corners.Corner.{Corner}
 use Rattle.fs_plane.specs.declared.sites.Site.{Site}
 use Rattle.fs_plane.specs.declared.sites.Stop.{Stop}

@@ -92,12 +92,7 @@ pub fn follow(
 
 // Whether the path along v from a corner, inside the sector of which it begins, crosses the sides of this word and
 // ends at a vertex.
-pub fn follow_word(
-    surface: &Surface,
-    start: Corner,
-    word: &[Corner],
-    v: V2,
-) -> Result<bool, Site>
+pub fn follow_word(surface: &Surface, start: Corner, word: &[Corner], v: V2) -> Result<bool, Site>
     requires start { HasSide surface.now.polygons start }
     requires surface { IsSurface surface.now }
     requires inside { first_entry surface.now.d (polygon_sides surface.now.polygons) v start ≡ Ok Inside }

@@ -19,22 +19,13 @@ use std::alloc::Global;
 #[derive(Drop)]
 pub enum Walk {
     /// It ends at a vertex and meets none before; `end` is the corner of the last polygon there.
-    Segment {
-        word: Sequence<Corner>,
-        end: Corner,
-    },
+    Segment { word: Sequence<Corner>, end: Corner },
     /// It meets a vertex before its end.
-    Vertex {
-        word: Sequence<Corner>,
-    },
+    Vertex { word: Sequence<Corner> },
     /// It ends in the last polygon or on its boundary, off the vertices, and meets none.
-    Inside {
-        word: Sequence<Corner>,
-    },
+    Inside { word: Sequence<Corner> },
     /// It crosses more sides than it may: the word has as many.
-    LongWord {
-        word: Sequence<Corner>,
-    },
+    LongWord { word: Sequence<Corner> },
     /// The vector isn't in the corner's sector.
     OutOfSector,
 }
@@ -99,12 +90,7 @@ fn walk_from(
 /// The path is followed as far as it crosses the sides of the word. The error is the first site that
 /// overflows on the way. Takes no memory; its cost is linear in the number of corners of the polygons that
 /// the path crosses.
-pub fn check_segment(
-    surface: &Surface,
-    start: Corner,
-    word: &[Corner],
-    v: V2,
-) -> Result<bool, Site>
+pub fn check_segment(surface: &Surface, start: Corner, word: &[Corner], v: V2) -> Result<bool, Site>
     requires start { HasSide surface.now.polygons start }
     requires direction { v ≢ vector_zero }
     requires short { length word.now ≤ 1000000 }

@@ -3,11 +3,10 @@
 ghost use Rattle.std.specs.Prelude.{◌≡◌, ◌+◌, ◌<◌, ◌^◌};
 ghost use Rattle.fs_plane.specs.Formulas.{vector_sum_after, vector_difference_after};
 
+pub use crate::formulas::{cross_after, dot_after, norm_after};
 use crate::vector::V2;
 use fs_quadratic::Place;
 use fs_quadratic::steps::{difference_at, sum_at};
-
-pub use crate::formulas::{cross_after, dot_after, norm_after};
 
 /// The sum a + b, or the first place that overflows: place 1 after `before` is x, place 2 is y.
 #[tactic(auto, unfolding(crate::specs::Formulas::vector_sum_after))]

@@ -1,5 +1,5 @@
 -- `segment` has one answer about a surface, and no other.
-use Rattle.std.proofs.Common.{◌≡◌, ◌⊎◌, ℕ, Bool, true, Result, Ok, Err, Option, None, Some, List, refl, sym, ap, ◌∙◌, subst, inl, inr, ◌++◌, ◌%◌}
+use Rattle.std.proofs.Common.{◌≡◌, ◌⊎◌, ℕ, Bool, true, Result, Ok, Err, None, Some, List, refl, sym, ap, ◌∙◌, subst, inl, inr, ◌++◌, ◌%◌}
 use Rattle.std.specs.Prelude.{codes, unsigned_abs}
 use Rattle.std.specs.Int.{◌∣◌}
 use Rattle.std.proofs.lemmas.Nat.Gcd.{dvd_of_mod-eq-zero, mod-eq-zero_of_dvd}

@@ -12,6 +12,6 @@ pub returns-in-Err : goal.returns-in-Err
 returns-in-Err c = (
   c.in-Err.field-0,
   entry_read c.args.surface.now c.field.result.d c.args.start c.side_before.result c.args.v c.side-outgoing.result c.side-incoming.result (Err c.in-Err.field-0)
-    c.requires c.field.ensures.field c.side_before.ensures c.side-outgoing.ensures c.side-incoming.ensures (sym c.in-Err.is ∙ c.enter.ensures),
+      c.requires c.field.ensures.field c.side_before.ensures c.side-outgoing.ensures c.side-incoming.ensures (sym c.in-Err.is ∙ c.enter.ensures),
   search,
 )

@@ -1,5 +1,5 @@
 -- The path is followed from polygon to polygon, until it ends or may cross no more.
-use Rattle.std.proofs.Common.{◌≡◌, ◌≤◌, ◌<◌, ◌∙◌, ◌++◌, ◌+◌, List, [], ◌∷◌, length, sym, ap, subst, refl, Ok, Err, arith, length-append}
+use Rattle.std.proofs.Common.{◌≡◌, ◌<◌, ◌∙◌, ◌++◌, ◌+◌, List, [], ◌∷◌, length, sym, ap, subst, refl, Ok, Err, arith, length-append}
 use Rattle.fs_plane.specs.declared.corners.Corner.{Corner}
 use Rattle.fs_plane.specs.declared.sites.Site.TheVariants as sites
 use Rattle.fs_paths.specs.Ends.{segment}
@@ -16,7 +16,7 @@ pub loop-word-init : goal.loop-word-init
 loop-word-init c =
     let empty : length c.args.word ≡ 0 = ap length c.requires.word in (
       subst (λ (w : List Corner). IsFollowed c.args.surface.now c.args.v (IsWithin c.args.steps) c.args.start w c.first_spot-spot.result) (sym c.requires.word)
-        (subst (λ (at : Spot). IsFollowed c.args.surface.now c.args.v (IsWithin c.args.steps) c.args.start [] at) (sym c.first_spot-spot.ensures)
+          (subst (λ (at : Spot). IsFollowed c.args.surface.now c.args.v (IsWithin c.args.steps) c.args.start [] at) (sym c.first_spot-spot.ensures)
           (followed_first c.args.surface.now c.args.v (IsWithin c.args.steps) c.args.start c.requires.surface c.requires.start c.requires.inside)),
       omega arith,
     )
@@ -26,7 +26,7 @@ returns-in_err-last c =
     let stopped = c.in_err-last.ensures in
     returned_site (λ r. FollowsTo c.args.surface.now.d (polygon_sides c.args.surface.now.polygons) c.args.v (IsWithin c.args.steps) [] (first_spot c.args.start) r) c.in_err-last.field-0.0 c.from_residual.result c.from_residual.ensures.1
     (followed_to_end c.args.surface.now c.args.v (IsWithin c.args.steps) c.args.start c.loop-word.word c.loop-word.spot stopped.0 (Err stopped.1) _ c.loop-word.invariant.0 stopped.2 stopped.3
-      (ap Err (stopped.4 ∙ ap (λ n. sites.Walk n stopped.1.0) c.len.ensures)))
+    (ap Err (stopped.4 ∙ ap (λ n. sites.Walk n stopped.1.0) c.len.ensures)))
 
 pub corner_after-end-requires : goal.corner_after-end-requires
 corner_after-end-requires c = (let departs = c.in_ok-last.ensures in spot_side c.args.surface.now c.requires.surface c.args.v c.in_ok-last.last.spot departs.1)
@@ -65,10 +65,10 @@ loop-word-preserved c =
     let within : length c.loop-word.word < c.args.steps = (let other = c.if-len-steps.false in let n = c.len-in-loop-word.ensures in let short = c.loop-word.invariant.1 in grind arith) in
     let across =
     followed_across c.args.surface.now c.args.v (IsWithin c.args.steps) c.args.start c.loop-word.word c.loop-word.spot c.in_ok-last.last.spot c.requires.surface c.loop-word.invariant.0 departs.0 departs.1
-      (departs.2 ∙ ap (λ x. Ok (Last x)) c.in-Crosses.is) within in
+    (departs.2 ∙ ap (λ x. Ok (Last x)) c.in-Crosses.is) within in
     let pushed = c.in_ok-push.ensures.ok in
     let longer : length c.push.new.self ≡ length c.loop-word.word + 1 = ap length pushed ∙ length-append c.loop-word.word (c.in_ok-last.last.spot.side ∷ []) in (
       subst (λ (w : List Corner). IsFollowed c.args.surface.now c.args.v (IsWithin c.args.steps) c.args.start w c.cross-spot.result) (sym pushed)
-        (subst (λ (at : Spot). IsFollowed c.args.surface.now c.args.v (IsWithin c.args.steps) c.args.start (c.loop-word.word ++ c.in_ok-last.last.spot.side ∷ []) at) (sym c.cross-spot.ensures) across),
+          (subst (λ (at : Spot). IsFollowed c.args.surface.now c.args.v (IsWithin c.args.steps) c.args.start (c.loop-word.word ++ c.in_ok-last.last.spot.side ∷ []) at) (sym c.cross-spot.ensures) across),
       omega arith,
     )

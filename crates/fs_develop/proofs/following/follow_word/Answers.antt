@@ -1,5 +1,5 @@
 -- The path is followed along the word.
-use Rattle.std.proofs.Common.{◌≡◌, ◌<◌, ◌∙◌, ◌+◌, ◌++◌, List, [], ◌∷◌, take, length, false, true, Err, Ok, Some, ◌≤◌, refl, sym, ap, subst, arith}
+use Rattle.std.proofs.Common.{◌≡◌, ◌<◌, ◌∙◌, ◌++◌, List, [], ◌∷◌, take, length, false, true, Err, Ok, Some, ◌≤◌, refl, sym, ap, subst, arith}
 use Rattle.std.proofs.lemmas.Option.{slice_get-get_or}
 use Rattle.std.proofs.lemmas.List.{length-take-le, take_all}
 use Rattle.fs_plane.specs.declared.corners.Corner.{Corner}
@@ -26,7 +26,7 @@ returns-in_err-last c =
     returned_check_site (λ r. FollowsTo c.args.surface.now.d (polygon_sides c.args.surface.now.polygons) c.args.v (IsNextOf c.args.word.now) [] (first_spot c.args.start) r) c.args.word.now c.in_err-last.field-0.0
     c.from_residual.result c.from_residual.ensures.1
     (followed_to_end c.args.surface.now c.args.v (IsNextOf c.args.word.now) c.args.start (take c.loop-n.n c.args.word.now) c.loop-n.spot stopped.0 (Err stopped.1) _ c.loop-n.invariant stopped.2 stopped.3
-      (ap Err (stopped.4 ∙ ap (λ n. sites.Walk n stopped.1.0) (sym (length-take-le c.loop-n.n c.args.word.now (omega arith))))))
+    (ap Err (stopped.4 ∙ ap (λ n. sites.Walk n stopped.1.0) (sym (length-take-le c.loop-n.n c.args.word.now (omega arith))))))
 
 pub returns-then-not-crosses : goal.returns-then-not-crosses
 returns-then-not-crosses c =
@@ -52,8 +52,8 @@ loop-n-preserved c =
     subst (λ (w : List Corner). IsFollowed c.args.surface.now c.args.v (IsNextOf c.args.word.now) c.args.start w c.cross-spot.result)
     (sym (take_one_more c.args.word.now c.loop-n.n c.in_ok-last.last.spot.side there))
     (subst (λ (to : Spot). IsFollowed c.args.surface.now c.args.v (IsNextOf c.args.word.now) c.args.start (take c.loop-n.n c.args.word.now ++ c.in_ok-last.last.spot.side ∷ []) to) (sym c.cross-spot.ensures)
-      (followed_across c.args.surface.now c.args.v (IsNextOf c.args.word.now) c.args.start (take c.loop-n.n c.args.word.now) c.loop-n.spot c.in_ok-last.last.spot c.requires.surface c.loop-n.invariant departs.0 departs.1
-        (departs.2 ∙ ap (λ x. Ok (Last x)) sides.0) (next_at c.args.word.now c.loop-n.n c.in_ok-last.last.spot.side there)))
+    (followed_across c.args.surface.now c.args.v (IsNextOf c.args.word.now) c.args.start (take c.loop-n.n c.args.word.now) c.loop-n.spot c.in_ok-last.last.spot c.requires.surface c.loop-n.invariant departs.0 departs.1
+    (departs.2 ∙ ap (λ x. Ok (Last x)) sides.0) (next_at c.args.word.now c.loop-n.n c.in_ok-last.last.spot.side there)))
 
 pub returns-in_err-last-2 : goal.returns-in_err-last-2
 returns-in_err-last-2 c =
@@ -62,8 +62,8 @@ returns-in_err-last-2 c =
     returned_check_site (λ r. FollowsTo c.args.surface.now.d (polygon_sides c.args.surface.now.polygons) c.args.v (IsNextOf c.args.word.now) [] (first_spot c.args.start) r) c.args.word.now c.in_err-last-2.field-0.0
     c.from_residual-in_err-last-2.result c.from_residual-in_err-last-2.ensures.1
     (followed_to_end c.args.surface.now c.args.v (IsNextOf c.args.word.now) c.args.start c.args.word.now c.loop-n.spot stopped.0 (Err stopped.1) _
-      (subst (λ (w : List Corner). IsFollowed c.args.surface.now c.args.v (IsNextOf c.args.word.now) c.args.start w c.loop-n.spot) (take_all c.loop-n.n c.args.word.now past) c.loop-n.invariant)
-      stopped.2 stopped.3 (ap Err stopped.4))
+    (subst (λ (w : List Corner). IsFollowed c.args.surface.now c.args.v (IsNextOf c.args.word.now) c.args.start w c.loop-n.spot) (take_all c.loop-n.n c.args.word.now past) c.loop-n.invariant)
+    stopped.2 stopped.3 (ap Err stopped.4))
 
 pub returns : goal.returns
 returns c =

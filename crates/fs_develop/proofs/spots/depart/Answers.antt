@@ -30,7 +30,7 @@ returns-in-Err c =
       c.in-Err.field-0,
       c.loop-finding.invariant.0,
       finding_read c.args.surface.now c.field-field.result.d at c.args.v c.side.result (Err c.in-Err.field-0)
-        (spot_side c.args.surface.now c.requires.surface c.args.v at c.loop-finding.invariant.1) c.field-field.ensures.field c.side.ensures (sym c.in-Err.is ∙ c.look-found.ensures),
+          (spot_side c.args.surface.now c.requires.surface c.args.v at c.loop-finding.invariant.1) c.field-field.ensures.field c.side.ensures (sym c.in-Err.is ∙ c.look-found.ensures),
       search,
     )
 
@@ -57,9 +57,9 @@ loop-finding-preserved c =
     let corner = c.in-RightOfPath.corner in
     let found =
     finding_read c.args.surface.now c.field-field.result.d at c.args.v c.side.result (Ok (RightOfPath corner))
-      (spot_side c.args.surface.now c.requires.surface c.args.v at c.loop-finding.invariant.1) c.field-field.ensures.field c.side.ensures (sym (c.in-Ok.is ∙ ap Ok c.in-RightOfPath.is) ∙ c.look-found.ensures) in
+    (spot_side c.args.surface.now c.requires.surface c.args.v at c.loop-finding.invariant.1) c.field-field.ensures.field c.side.ensures (sym (c.in-Ok.is ∙ ap Ok c.in-RightOfPath.is) ∙ c.look-found.ensures) in
     subst (λ (side : Corner). let next : Spot = record { corners = c.loop-finding.corners + 1; side = side; from = corner } in
-      Passes c.args.surface.now.d (polygon_sides c.args.surface.now.polygons) c.args.v c.args.first next × IsSpot c.args.surface.now.d (polygon_sides c.args.surface.now.polygons) c.args.v next)
+    Passes c.args.surface.now.d (polygon_sides c.args.surface.now.polygons) c.args.v c.args.first next × IsSpot c.args.surface.now.d (polygon_sides c.args.surface.now.polygons) c.args.v next)
     (sym c.corner_after-side.ensures)
     (passes_more _ _ c.args.v c.loop-finding.invariant.0 found, passed_is_spot c.args.surface.now c.requires.surface c.args.v at corner c.loop-finding.invariant.1 found)
 
@@ -69,5 +69,5 @@ returns-in-Last c =
       c.loop-finding.invariant.0,
       c.loop-finding.invariant.1,
       finding_read c.args.surface.now c.field-field.result.d at c.args.v c.side.result (Ok (Last c.in-Last.departure))
-        (spot_side c.args.surface.now c.requires.surface c.args.v at c.loop-finding.invariant.1) c.field-field.ensures.field c.side.ensures (sym (c.in-Ok.is ∙ ap Ok c.in-Last.is) ∙ c.look-found.ensures),
+          (spot_side c.args.surface.now c.requires.surface c.args.v at c.loop-finding.invariant.1) c.field-field.ensures.field c.side.ensures (sym (c.in-Ok.is ∙ ap Ok c.in-Last.is) ∙ c.look-found.ensures),
     )

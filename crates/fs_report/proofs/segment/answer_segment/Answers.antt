@@ -10,7 +10,7 @@ pub answer_path-requires-clause-direction : goal.answer_path-requires-clause-dir
 answer_path-requires-clause-direction c = λ e.
     c.requires.direction
     (origin_of_scaled c.args.surface.now c.args.v.now c.in-Ok-Some.scaled c.field.ensures.surface.den
-      (subst (λ (found : Option PlaneVector). GivesScaled c.args.surface.now c.args.v.now (Ok found)) c.in-Ok-Some.field-0-is c.in-Ok-Some.ensures) e)
+    (subst (λ (found : Option PlaneVector). GivesScaled c.args.surface.now c.args.v.now (Ok found)) c.in-Ok-Some.field-0-is c.in-Ok-Some.ensures) e)
 
 pub returns-in-Ok-Some : goal.returns-in-Ok-Some
 returns-in-Ok-Some c =
