@@ -1,0 +1,4 @@
+pub mod Cuts
+pub mod CornerSectors
+pub mod CutSectors
+pub mod Germs

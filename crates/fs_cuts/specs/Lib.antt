@@ -1,0 +1,4 @@
+pub mod Cuts
+pub mod Halves
+pub mod Renumberings
+pub mod CutAndPaste
