@@ -5,3 +5,5 @@ pub mod Germs
 pub mod Halves
 pub mod HalvesCover
 pub mod WordsAcross
+pub mod Renumberings
+pub mod Steps
