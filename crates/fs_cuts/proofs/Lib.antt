@@ -7,3 +7,5 @@ pub mod HalvesCover
 pub mod WordsAcross
 pub mod Renumberings
 pub mod Steps
+pub mod EdgeRemoval
+pub mod RemovalPositions
