@@ -9,3 +9,5 @@ pub mod Renumberings
 pub mod Steps
 pub mod EdgeRemoval
 pub mod RemovalPositions
+pub mod RemovalTurning
+pub mod RemovalGluing

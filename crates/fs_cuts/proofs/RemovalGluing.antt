@@ -1,0 +1,80 @@
+-- Glued polygons without one edge are glued polygons, and the edge cuts one of them in two. A library for crates to come.
+use Rattle.std.proofs.Common.{◌≡◌, ◌≢◌, ◌⊎◌, ℕ, Bool, IsTrue, zero, suc, ◌≤◌, refl, sym, ap, ◌∙◌, subst, inl, inr, arith}
+use Rattle.fs_ring.specs.Operations.{Operations}
+use Rattle.fs_ring.specs.OrderedRing.{IsOrderedRing}
+use Rattle.fs_ring.specs.Vector.{Vector, zero_vector, neg_vector}
+use Rattle.fs_ring.specs.Direction.{InHalfPlane}
+use Rattle.fs_convex.specs.Turning.{DecidesHalfPlanes}
+use Rattle.fs_paths.specs.SideGluing.{SideGluing, IsSide, AreGluedPolygons}
+use Rattle.fs_cuts.specs.EdgeRemoval.{IsWithoutEdge}
+use Rattle.fs_cuts.specs.Cuts.{IsCut}
+use Rattle.fs_cuts.proofs.EdgeRemoval as removal
+use Rattle.fs_cuts.proofs.RemovalPositions as removal_positions
+use Rattle.fs_cuts.proofs.RemovalTurning as removal_turning
+
+module _ {A : Type 0} {R : Operations A} {IsPositive : A → Type 0} (L : IsOrderedRing R IsPositive)
+    {is_ahead : Vector A → Vector A → Bool} (test : DecidesHalfPlanes R IsPositive is_ahead)
+    {X : Type 0} {G K : SideGluing X A} (g : AreGluedPolygons R IsPositive is_ahead G) {d e : X} (r : IsWithoutEdge G K d e)
+    (convex_d : InHalfPlane R IsPositive (G.vector (G.prev d)) (G.vector (G.next e)))
+    (convex_e : InHalfPlane R IsPositive (G.vector (G.prev e)) (G.vector (G.next d))) where
+  abbrev other : IsWithoutEdge G K e d
+  other = removal.mirrored L test g r
+
+  -- each side is the next of some side
+  side_before : (x : X) → IsSide K x → (z : X) × IsSide K z × (K.next z ≡ x)
+  side_before x s = elim (r.sides (G.prev x) (g.prev_side x there)) [
+    | inl f ↦ (G.prev e, removal.before_d_side L test g other, r.next_before_e ∙ ap G.next (sym f) ∙ g.next_prev x there)
+    | inr (inl f) ↦ (G.prev d, removal.before_d_side L test g r, r.next_before_d ∙ ap G.next (sym f) ∙ g.next_prev x there)
+    | inr (inr k) ↦ (G.prev x, k, removal.next_same L test g r (G.prev x) k (subst (IsSide K) (sym (g.next_prev x there)) s) ∙ g.next_prev x there)
+  ]
+    where
+      there : IsSide G x
+      there = r.side_before x s
+
+  -- and that is the one before
+  prev_of : (x : X) (s : IsSide K x) → K.prev x ≡ (side_before x s).0
+  prev_of x s = let before = side_before x s in ap K.prev (sym before.2) ∙ r.prev_next before.0 before.1
+
+  -- twins are left
+  twin_left : (x : X) → IsSide K x → IsSide K (G.twin x)
+  twin_left x s = elim (r.sides (G.twin x) (g.twin_side x there)) [
+    | inl f ↦ absurd (r.not_e x s (sym (g.twin_twin x there) ∙ ap G.twin f ∙ r.twin_d))
+    | inr (inl f) ↦ absurd (r.not_d x s (sym (g.twin_twin x there) ∙ ap G.twin f ∙ removal.twin_e L test g r))
+    | inr (inr k) ↦ k
+  ]
+    where
+      there : IsSide G x
+      there = r.side_before x s
+
+  -- how many sides lead back: none are asked for where there is no side
+  count_where : (x : X) → IsSide K x ⊎ ¬ IsSide K x → ℕ
+  count_where x (inl s) = (removal_turning.turns_once L test g r convex_d convex_e x s).0
+  count_where x (inr n) = 0
+
+  turns_where : (x : X) → IsSide K x → (c : IsSide K x ⊎ ¬ IsSide K x) → removal_turning.TurnsOnce L test g r convex_d convex_e x (count_where x c)
+  unfolding count_where
+  turns_where x s (inl t) = (removal_turning.turns_once L test g r convex_d convex_e x t).1
+  turns_where x s (inr n) = absurd (n s)
+
+  -- without the edge they are glued polygons, where no corner at its ends bends right
+  pub glued_without_edge : AreGluedPolygons R IsPositive is_ahead K
+  glued_without_edge = record {
+    next_side = removal_turning.next_left L test g r convex_d convex_e;
+    prev_side = λ x s. subst (IsSide K) (sym (prev_of x s)) (side_before x s).1;
+    twin_side = λ x s. subst (IsSide K) (sym (r.twin x s)) (twin_left x s);
+    next_prev = λ x s. ap K.next (prev_of x s) ∙ (side_before x s).2;
+    prev_next = r.prev_next;
+    twin_twin = λ x s. ap K.twin (r.twin x s) ∙ r.twin (G.twin x) (twin_left x s) ∙ g.twin_twin x (r.side_before x s);
+    twin_other = λ x s f. g.twin_other x (r.side_before x s) (sym (r.twin x s) ∙ f);
+    twin_opposite = λ x s.
+        ap K.vector (r.twin x s)
+        ∙ r.vector (G.twin x) (twin_left x s)
+        ∙ g.twin_opposite x (r.side_before x s)
+        ∙ ap (neg_vector R) (sym (r.vector x s));
+    convex = removal_turning.convex_left L test g r convex_d convex_e;
+    position = removal_positions.joined_position L test g r;
+    position_next = removal_positions.joined_position_next L test g r;
+    sides = λ x. count_where x (removal_positions.true_or_not (K.has x));
+    returns = λ x s. (turns_where x s (removal_positions.true_or_not (K.has x))).returns;
+    turning_number = λ x s. (turns_where x s (removal_positions.true_or_not (K.has x))).turning_number;
+  }
