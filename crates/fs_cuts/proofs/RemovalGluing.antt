@@ -1,11 +1,16 @@
 -- Glued polygons without one edge are glued polygons, and the edge cuts one of them in two. A library for crates to come.
-use Rattle.std.proofs.Common.{◌≡◌, ◌≢◌, ◌⊎◌, ℕ, Bool, IsTrue, zero, suc, ◌≤◌, refl, sym, ap, ◌∙◌, subst, inl, inr, arith}
+use Rattle.std.proofs.Common.{◌≡◌, ◌≢◌, ◌⊎◌, ℕ, Bool, IsTrue, zero, suc, ◌<◌, ◌≤◌, [], ◌∷◌, refl, sym, ap, ◌∙◌, subst, inl, inr, arith}
 use Rattle.fs_ring.specs.Operations.{Operations}
 use Rattle.fs_ring.specs.OrderedRing.{IsOrderedRing}
-use Rattle.fs_ring.specs.Vector.{Vector, zero_vector, neg_vector}
+use Rattle.fs_ring.specs.Vector.{Vector, zero_vector, add_vector, sub_vector, neg_vector}
 use Rattle.fs_ring.specs.Direction.{InHalfPlane}
+use Rattle.fs_ring.proofs.Solver.{expressions as E}
+use Rattle.fs_ring.proofs.PlaneSolver.{vector_identity, ◌≐ᵥ◌}
 use Rattle.fs_convex.specs.Turning.{DecidesHalfPlanes}
-use Rattle.fs_paths.specs.SideGluing.{SideGluing, IsSide, AreGluedPolygons}
+use Rattle.fs_convex.specs.Polygon.{position}
+use Rattle.fs_paths.specs.SideGluing.{SideGluing, IsSide, AreGluedPolygons, sides_from}
+use Rattle.fs_paths.specs.Development.{IsPutAt}
+use Rattle.fs_paths.proofs.Developments as developments
 use Rattle.fs_cuts.specs.EdgeRemoval.{IsWithoutEdge}
 use Rattle.fs_cuts.specs.Cuts.{IsCut}
 use Rattle.fs_cuts.proofs.EdgeRemoval as removal
@@ -77,4 +82,65 @@ module _ {A : Type 0} {R : Operations A} {IsPositive : A → Type 0} (L : IsOrde
     sides = λ x. count_where x (removal_positions.true_or_not (K.has x));
     returns = λ x s. (turns_where x s (removal_positions.true_or_not (K.has x))).returns;
     turning_number = λ x s. (turns_where x s (removal_positions.true_or_not (K.has x))).turning_number;
+  }
+
+  -- ---- the edge is a cut
+
+  position_agree : (p : Vector A) (s t : ℕ → Vector A) (k : ℕ) → ((j : ℕ) → j < k → s j ≡ t j) → position R p s k ≡ position R p t k
+  position_agree p s t zero h = refl
+  position_agree p s t (suc k) h = λ i. add_vector R (position_agree p s t k (λ j l. h j (omega arith)) i) (h k (omega arith) i)
+
+  -- the sides from the one after e up to the one before d lead where d leads
+  span_of_d : IsPutAt R K (G.next e) (zero_vector R) (G.next d) (G.vector d)
+  span_of_d = record {
+    number = suc more;
+    side = removal_turning.across_d L test g other;
+    corner = position_agree (zero_vector R) (sides_from K (G.next e)) (sides_from G (G.next e)) (suc more) (λ j l. sym (removal_turning.vector_left L test g other j (omega arith))) ∙ to_d;
+  }
+    where
+      more : ℕ
+      more = removal_turning.more_sides L test g other
+
+      e_side : IsSide G e
+      e_side = removal.e_side L test g r
+
+      Q : Vector A
+      Q = position R (zero_vector R) (sides_from G (G.next e)) (suc more)
+
+      round : add_vector R Q (G.vector e) ≡ zero_vector R
+      round =
+          developments.put_position_unique L test g (g.next_side e e_side)
+          (developments.put_next (record { number = suc more; side = removal_turning.end_after_d L test g other; corner = refl })) (developments.put_refl (G.next e) (zero_vector R))
+
+      to_d : Q ≡ G.vector d
+      to_d =
+          vector_identity L.ring [] (Q ∷ G.vector e ∷ []) (λ q e. q ≐ᵥ sub_vector E (add_vector E q e) e) refl
+          ∙ ap (λ w. sub_vector R w (G.vector e)) round
+          ∙ vector_identity L.ring [] (G.vector e ∷ []) (λ e. sub_vector E (zero_vector E) e ≐ᵥ neg_vector E e) refl
+          ∙ sym (removal.vector_e L test g other)
+
+  -- with the edge, one of their polygons is cut in two
+  pub cut_by_edge : IsCut R K G (λ x. x) (G.prev d) (G.prev e) d e
+  cut_by_edge = record {
+    p_side = removal.before_d_side L test g r;
+    q_side = removal.before_d_side L test g other;
+    d_side = r.d_side;
+    e_side = removal.e_side L test g r;
+    kept_side = r.side_before;
+    kept_not_d = r.not_d;
+    kept_not_e = r.not_e;
+    one_to_one = λ x y j k f. f;
+    sides = λ y s. elim (r.sides y s) [ inl f ↦ inl f | inr (inl f) ↦ inr (inl f) | inr (inr k) ↦ inr (inr (y, k, refl)) ];
+    vector = λ x s. sym (r.vector x s);
+    twin = λ x s. sym (r.twin x s);
+    twin_d = r.twin_d;
+    twin_e = removal.twin_e L test g r;
+    next_p = g.next_prev d r.d_side;
+    next_d = sym r.next_before_e;
+    next_q = g.next_prev e (removal.e_side L test g r);
+    next_e = sym r.next_before_d;
+    next_kept = λ x s m n. sym (r.next_kept x s m n);
+    span = subst (λ w. IsPutAt R K w (zero_vector R) (K.next (G.prev e)) (G.vector d)) (sym r.next_before_d)
+        (subst (λ w. IsPutAt R K (G.next e) (zero_vector R) w (G.vector d)) (sym r.next_before_e) span_of_d);
+    apart = r.apart;
   }

@@ -68,10 +68,10 @@ module _ {A : Type 0} {R : Operations A} {IsPositive : A → Type 0} (L : IsOrde
   across_d = iterate_after K.next more_sides (G.next d) ∙ ap K.next (same_after_d more_sides (omega arith) ∙ last_after_d) ∙ r.next_before_d
 
   -- then came d
-  end_after_d : nth_side G (G.next d) (suc more_sides) ≡ d
+  pub end_after_d : nth_side G (G.next d) (suc more_sides) ≡ d
   end_after_d = ap (λ (k : ℕ). nth_side G d k) (sym sides_of_d) ∙ g.returns d r.d_side
 
-  vector_left : (j : ℕ) → j ≤ more_sides → sides_from G (G.next d) j ≡ sides_from K (G.next d) j
+  pub vector_left : (j : ℕ) → j ≤ more_sides → sides_from G (G.next d) j ≡ sides_from K (G.next d) j
   vector_left j l = sym (r.vector (nth_side G (G.next d) j) (left_after_d j l)) ∙ ap K.vector (sym (same_after_d j l))
 
   -- each side of the polygon of d that is left comes after d so

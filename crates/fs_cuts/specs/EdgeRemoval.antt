@@ -1,5 +1,5 @@
 -- Glued polygons without one edge: the two polygons at it become one. The contract of `flat` doesn't rest on this file.
-use Rattle.std.specs.Prelude.{◌≡◌, ◌≢◌, ◌⊎◌, ℕ}
+use Rattle.std.specs.Prelude.{◌≡◌, ◌≢◌, ◌⊎◌, ◌↔◌, ℕ, Bool, true, false, cond}
 use Rattle.fs_paths.specs.SideGluing.{SideGluing, IsSide, nth_side}
 
 module _ {A X : Type 0} (G K : SideGluing X A) where
@@ -18,3 +18,18 @@ module _ {A X : Type 0} (G K : SideGluing X A) where
     pub next_before_e : K.next (G.prev e) ≡ G.next d
     pub next_kept : (x : X) → IsSide K x → x ≢ G.prev d → x ≢ G.prev e → K.next x ≡ G.next x
     pub prev_next : (x : X) → IsSide K x → K.prev (K.next x) ≡ x
+
+-- the test tells which names are the same
+abbrev pub TellsNames : {X : Type 0} → (X → X → Bool) → Type 0
+TellsNames {X} same = (x y : X) → (same x y ≡ true) ↔ (x ≡ y)
+
+module _ {A X : Type 0} (same : X → X → Bool) (G : SideGluing X A) (d : X) where
+  -- G without the side d and its twin, where the test tells which names are the same
+  abbrev pub without_edge : SideGluing X A
+  without_edge = record {
+    has = λ x. cond (same x d) false (cond (same x (G.twin d)) false (G.has x));
+    next = λ x. cond (same x (G.prev d)) (G.next (G.twin d)) (cond (same x (G.prev (G.twin d))) (G.next d) (G.next x));
+    prev = λ x. cond (same x (G.next (G.twin d))) (G.prev d) (cond (same x (G.next d)) (G.prev (G.twin d)) (G.prev x));
+    twin = G.twin;
+    vector = G.vector;
+  }
