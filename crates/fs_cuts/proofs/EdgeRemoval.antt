@@ -1,11 +1,10 @@
 -- Glued polygons without one edge: which sides they have, and which follow each other. A library for crates to come.
-use Rattle.std.proofs.Common.{◌≡◌, ◌≢◌, ◌⊎◌, ℕ, Bool, suc, ◌-◌, ◌<◌, [], ◌∷◌, refl, sym, ap, ◌∙◌, subst, inl, inr, arith}
+use Rattle.std.proofs.Common.{◌≡◌, ◌≢◌, ◌⊎◌, ℕ, Bool, suc, ◌-◌, ◌<◌, [], ◌∷◌, refl, sym, ap, ◌∙◌, subst, inl, inr}
 use Rattle.fs_cycles.specs.Cycles.{LeadsTo}
 use Rattle.fs_cycles.proofs.Iterates.{leads_trans, first_below}
 use Rattle.fs_ring.specs.Operations.{Operations}
 use Rattle.fs_ring.specs.OrderedRing.{IsOrderedRing}
 use Rattle.fs_ring.specs.Vector.{Vector, zero_vector, add_vector, sub_vector, neg_vector}
-use Rattle.fs_ring.specs.Direction.{InHalfPlane}
 use Rattle.fs_ring.proofs.HalfPlanes as half_planes
 use Rattle.fs_ring.proofs.Solver.{expressions as E}
 use Rattle.fs_ring.proofs.PlaneSolver.{vector_identity, ◌≐ᵥ◌}

@@ -1,5 +1,5 @@
 -- Each side of a polygon that is cut is a side of one of the two halves, at the same position. A library for crates to come.
-use Rattle.std.proofs.Common.{◌≡◌, ◌⊎◌, ◌≢◌, ℕ, Bool, zero, suc, refl, sym, ap, ◌∙◌, subst, inl, inr}
+use Rattle.std.proofs.Common.{◌≡◌, ◌⊎◌, ◌≢◌, ℕ, Bool, zero, suc, sym, ap, ◌∙◌, subst, inl, inr}
 use Rattle.fs_cycles.proofs.Iterates.{iterate_after}
 use Rattle.fs_ring.specs.Operations.{Operations}
 use Rattle.fs_ring.specs.OrderedRing.{IsOrderedRing}

@@ -11,3 +11,4 @@ pub mod EdgeRemoval
 pub mod RemovalPositions
 pub mod RemovalTurning
 pub mod RemovalGluing
+pub mod WithoutEdge

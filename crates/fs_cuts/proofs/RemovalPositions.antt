@@ -1,5 +1,5 @@
 -- Positions of the corners of glued polygons without one edge: one of the two polygons at it is shifted to the other. A library for crates to come.
-use Rattle.std.proofs.Common.{◌≡◌, ◌⊎◌, ℕ, Bool, true, false, IsTrue, zero, suc, [], ◌∷◌, refl, sym, ap, ◌∙◌, inl, inr}
+use Rattle.std.proofs.Common.{◌≡◌, ◌⊎◌, Bool, true, false, IsTrue, zero, suc, [], ◌∷◌, refl, sym, ap, ◌∙◌, inl, inr}
 use Rattle.fs_cycles.specs.Cycles.{LeadsTo}
 use Rattle.fs_ring.specs.Operations.{Operations}
 use Rattle.fs_ring.specs.OrderedRing.{IsOrderedRing}

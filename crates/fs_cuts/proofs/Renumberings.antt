@@ -1,5 +1,5 @@
 -- Glued polygons with other names are the same: their sectors, their put polygons, their paths and segments. A library for crates to come.
-use Rattle.std.proofs.Common.{◌≡◌, ℕ, Bool, zero, suc, List, [], ◌∷◌, map, refl, sym, ap, ◌∙◌, subst}
+use Rattle.std.proofs.Common.{◌≡◌, ℕ, Bool, zero, suc, List, [], ◌∷◌, map, sym, ap, ◌∙◌, subst}
 use Rattle.fs_cycles.proofs.Iterates.{iterate_after}
 use Rattle.fs_ring.specs.Operations.{Operations}
 use Rattle.fs_ring.specs.OrderedRing.{IsOrderedRing}
@@ -89,8 +89,7 @@ module _ {A : Type 0} {R : Operations A} {IsPositive : A → Type 0} (L : IsOrde
       let there = developments.put_is_side L test g s k.1 in
       let same = r.vector x there in
       let Q = k.0 in
-      let rest = path_new v word (G.twin x) f (add_vector R Q (G.vector x)) F (g.twin_side x there) k.3 in
-      (
+      let rest = path_new v word (G.twin x) f (add_vector R Q (G.vector x)) F (g.twin_side x there) k.3 in (
         Q,
         put_new s k.1,
         subst (λ w. Crosses R IsPositive v Q (add_vector R Q w)) (sym same) k.2,

@@ -1,5 +1,5 @@
 -- Cuts, cuts undone, and renumberings, each and in lists: a direction at a corner is carried to exactly one corner, and from exactly one. A library for crates to come.
-use Rattle.std.proofs.Common.{◌≡◌, Bool, refl, sym, ap, ◌∙◌, subst}
+use Rattle.std.proofs.Common.{◌≡◌, Bool, refl, sym, ◌∙◌, subst}
 use Rattle.fs_ring.specs.Operations.{Operations}
 use Rattle.fs_ring.specs.OrderedRing.{IsOrderedRing}
 use Rattle.fs_ring.specs.Vector.{Vector}
@@ -55,8 +55,7 @@ module _ {A : Type 0} {R : Operations A} {IsPositive : A → Type 0} (L : IsOrde
         let r = germs.germ_after L test h g k y v a.corner a.sector in
         (r.0, r.1, record { corner = r.1.end_side; sector = r.1.end })
     carried_from_before (renumbering new old k) y v a =
-        let back = renumberings.renumbering_back g h k in
-        (
+        let back = renumberings.renumbering_back g h k in (
           old y,
           sym (k.new_old y a.corner),
           record { corner = k.old_side y a.corner; sector = subst (λ T. T) (sym (renumberings.sector_new h g back y a.corner)) a.sector },

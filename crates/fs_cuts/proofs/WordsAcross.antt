@@ -5,7 +5,6 @@ use Rattle.fs_ring.specs.OrderedRing.{IsOrderedRing}
 use Rattle.fs_ring.specs.Vector.{Vector, add_vector}
 use Rattle.fs_convex.specs.Turning.{DecidesHalfPlanes}
 use Rattle.fs_paths.specs.SideGluing.{SideGluing, IsSide, AreGluedPolygons}
-use Rattle.fs_paths.specs.Development.{IsPutAt}
 use Rattle.fs_paths.specs.StraightPaths.{Crosses, Path}
 use Rattle.fs_cuts.specs.Cuts.{IsCut}
 use Rattle.fs_cuts.specs.Halves.{LiesIn, by_kept, by_d, by_e, IsWordAcross, empty, crosses_kept, crosses_d, crosses_e}
@@ -47,8 +46,7 @@ module _ {A : Type 0} {R : Operations A} {IsPositive : A → Type 0} (L : IsOrde
           let same : H.vector c ≡ G.vector x = ap H.vector f ∙ cut.vector x t in
           let F = add_vector R k.0 (G.vector x) in
           let lies : Lies (G.twin x) F (H.twin c) F = subst (λ w. Lies (G.twin x) F (H.twin w) F) (sym f) (halves.lies_across_side L test g h cut x t F) in
-          let rest = again (G.twin x) (H.twin c) F F (g.twin_side x t) lies (subst (λ w. PathAfter (H.twin c) (add_vector R k.0 w) other z Z) same path) in
-          (
+          let rest = again (G.twin x) (H.twin c) F F (g.twin_side x t) lies (subst (λ w. PathAfter (H.twin c) (add_vector R k.0 w) other z Z) same path) in (
             x ∷ rest.0,
             subst (λ w. WordAcross (x ∷ rest.0) (w ∷ other)) (sym f) (crosses_kept x rest.0 other t rest.1),
             rest.2,
