@@ -12,3 +12,4 @@ pub mod RemovalPositions
 pub mod RemovalTurning
 pub mod RemovalGluing
 pub mod WithoutEdge
+pub mod Crossings

@@ -4,6 +4,7 @@ use Rattle.fs_ring.specs.Operations.{Operations}
 use Rattle.fs_ring.specs.Vector.{Vector, add_vector}
 use Rattle.fs_paths.specs.SideGluing.{SideGluing, IsSide}
 use Rattle.fs_paths.specs.Development.{IsPutAt}
+use Rattle.fs_paths.specs.StraightPaths.{Crosses}
 
 module _ {A : Type 0} (R : Operations A) {X Y : Type 0} (G : SideGluing X A) (H : SideGluing Y A) (kept : X → Y) (p q : X) (d e : Y) where
   -- the half of y, put with y at P, lies in the polygon of b, put with b at B: its side y is a side of the polygon, or one of the cut
@@ -24,3 +25,10 @@ module _ {A : Type 0} (R : Operations A) {X Y : Type 0} (G : SideGluing X A) (H 
     crosses_kept : (x : X) → (word : List X) → (other : List Y) → IsSide G x → IsWordAcross word other → IsWordAcross (x ∷ word) (kept x ∷ other)
     crosses_d : (word : List X) → (other : List Y) → IsWordAcross word other → IsWordAcross word (d ∷ other)
     crosses_e : (word : List X) → (other : List Y) → IsWordAcross word other → IsWordAcross word (e ∷ other)
+
+module _ {A : Type 0} (R : Operations A) (IsPositive : A → Type 0) {X Y : Type 0} (G : SideGluing X A) (H : SideGluing Y A) (kept : X → Y) (d e : Y) (v : Vector A) where
+  -- from the half of y, put with y at P, the path along v comes to the side x at Q of the polygon: at once, or across the cut
+  pub data ComesToSide (y : Y) (P : Vector A) (x : X) (Q : Vector A) : Type 0 where
+    at_once : IsPutAt R H y P (kept x) Q → ComesToSide y P x Q
+    after_d : (D : Vector A) → IsPutAt R H y P d D → Crosses R IsPositive v D (add_vector R D (H.vector d)) → IsPutAt R H e (add_vector R D (H.vector d)) (kept x) Q → ComesToSide y P x Q
+    after_e : (E : Vector A) → IsPutAt R H y P e E → Crosses R IsPositive v E (add_vector R E (H.vector e)) → IsPutAt R H d (add_vector R E (H.vector e)) (kept x) Q → ComesToSide y P x Q
