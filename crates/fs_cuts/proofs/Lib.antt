@@ -13,3 +13,5 @@ pub mod RemovalTurning
 pub mod RemovalGluing
 pub mod WithoutEdge
 pub mod Crossings
+pub mod PathsAfter
+pub mod EndsAfter
