@@ -1,5 +1,5 @@
 -- A path that crosses a side of a polygon crosses it after a cut, too, and the cut before it where that is between. A library for crates to come.
-use Rattle.std.proofs.Common.{◌≡◌, ◌≢◌, ◌⊎◌, Bool, List, [], ◌∷◌, refl, sym, ap, ◌∙◌, subst, inl, inr}
+use Rattle.std.proofs.Common.{Bool, refl, sym, subst}
 use Rattle.fs_ring.specs.Operations.{Operations}
 use Rattle.fs_ring.specs.OrderedRing.{IsOrderedRing}
 use Rattle.fs_ring.specs.Vector.{Vector, add_vector, cross}
@@ -7,12 +7,12 @@ use Rattle.fs_ring.proofs.Turns as turns
 use Rattle.fs_convex.specs.Turning.{DecidesHalfPlanes}
 use Rattle.fs_paths.specs.SideGluing.{SideGluing, IsSide, AreGluedPolygons}
 use Rattle.fs_paths.specs.Development.{IsPutAt}
-use Rattle.fs_paths.specs.StraightPaths.{Crosses, Path}
-use Rattle.fs_paths.specs.Passages.{ComesInto, Leaves, LeavesBySide, LeavesAtCorner, by_side, at_corner}
+use Rattle.fs_paths.specs.StraightPaths.{Crosses}
+use Rattle.fs_paths.specs.Passages.{ComesInto, LeavesBySide, LeavesAtCorner, by_side, at_corner}
 use Rattle.fs_paths.proofs.Developments as developments
 use Rattle.fs_paths.proofs.Passages as passages
 use Rattle.fs_cuts.specs.Cuts.{IsCut}
-use Rattle.fs_cuts.specs.Halves.{LiesIn, by_kept, by_d, by_e, IsWordAcross, empty, crosses_kept, crosses_d, crosses_e, ComesToSide, at_once, after_d, after_e}
+use Rattle.fs_cuts.specs.Halves.{LiesIn, by_kept, by_d, by_e, ComesToSide, at_once, after_d, after_e}
 use Rattle.fs_cuts.proofs.Cuts as cuts
 use Rattle.fs_cuts.proofs.Halves as halves
 

@@ -1,11 +1,10 @@
 -- A path that ends at a corner of a polygon ends at a corner after a cut, too: of the half to which it comes, or of the other, across the cut. A library for crates to come.
-use Rattle.std.proofs.Common.{◌≡◌, ◌⊎◌, Bool, List, [], ◌∷◌, refl, sym, ap, ◌∙◌, subst, inl, inr}
+use Rattle.std.proofs.Common.{◌≡◌, ◌⊎◌, Bool, [], ◌∷◌, refl, sym, ap, ◌∙◌, subst, inl, inr}
 use Rattle.fs_ring.specs.Operations.{Operations}
 use Rattle.fs_ring.specs.OrderedRing.{IsOrderedRing}
 use Rattle.fs_ring.specs.Vector.{Vector, add_vector, sub_vector, neg_vector, cross, dot}
 use Rattle.fs_ring.proofs.Signs as signs
 use Rattle.fs_ring.proofs.Plane as plane
-use Rattle.fs_ring.proofs.Turns as turns
 use Rattle.fs_ring.proofs.Directions as directions
 use Rattle.fs_ring.proofs.Solver.{expressions as E, numeral, ◌⊕◌, ◌⊗◌, ◌≐◌, ◌from◌}
 use Rattle.fs_ring.proofs.PlaneSolver.{plane_derived}
@@ -14,12 +13,12 @@ use Rattle.fs_convex.specs.Polygon.{IsOffSide, left_of_side, beyond_end, before_
 use Rattle.fs_paths.specs.SideGluing.{SideGluing, IsSide, AreGluedPolygons}
 use Rattle.fs_paths.specs.Development.{IsPutAt}
 use Rattle.fs_paths.specs.StraightPaths.{Crosses}
-use Rattle.fs_paths.specs.Passages.{ComesInto, Leaves, LeavesBySide, LeavesAtCorner, by_side, at_corner}
+use Rattle.fs_paths.specs.Passages.{ComesInto, LeavesBySide, by_side, at_corner}
 use Rattle.fs_paths.proofs.Developments as developments
 use Rattle.fs_paths.proofs.PutPolygons as put_polygons
 use Rattle.fs_paths.proofs.Passages as passages
 use Rattle.fs_cuts.specs.Cuts.{IsCut}
-use Rattle.fs_cuts.specs.Halves.{LiesIn, by_kept, by_d, by_e, IsInHalves, here, across_d, across_e}
+use Rattle.fs_cuts.specs.Halves.{LiesIn, IsInHalves, here, across_d, across_e}
 use Rattle.fs_cuts.proofs.Cuts as cuts
 use Rattle.fs_cuts.proofs.Halves as halves
 use Rattle.fs_cuts.proofs.HalvesCover as cover

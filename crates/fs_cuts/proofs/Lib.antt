@@ -15,3 +15,5 @@ pub mod WithoutEdge
 pub mod Crossings
 pub mod PathsAfter
 pub mod EndsAfter
+pub mod SegmentsAfter
+pub mod SegmentsCarried

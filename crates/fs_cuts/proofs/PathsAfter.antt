@@ -1,5 +1,5 @@
 -- A path before a cut is one after it: its word is the old one, with sides of the cut between. A library for crates to come.
-use Rattle.std.proofs.Common.{◌≡◌, ◌⊎◌, Bool, List, [], ◌∷◌, refl, sym, ap, ◌∙◌, subst, inl, inr}
+use Rattle.std.proofs.Common.{Bool, List, [], ◌∷◌, refl, sym, subst}
 use Rattle.fs_ring.specs.Operations.{Operations}
 use Rattle.fs_ring.specs.OrderedRing.{IsOrderedRing}
 use Rattle.fs_ring.specs.Vector.{Vector, add_vector}
@@ -12,7 +12,6 @@ use Rattle.fs_paths.proofs.Developments as developments
 use Rattle.fs_paths.proofs.Passages as passages
 use Rattle.fs_cuts.specs.Cuts.{IsCut}
 use Rattle.fs_cuts.specs.Halves.{LiesIn, IsWordAcross, empty, crosses_kept, crosses_d, crosses_e, ComesToSide, at_once, after_d, after_e}
-use Rattle.fs_cuts.proofs.Cuts as cuts
 use Rattle.fs_cuts.proofs.Halves as halves
 use Rattle.fs_cuts.proofs.Crossings as crossings
 
