@@ -17,3 +17,4 @@ pub mod PathsAfter
 pub mod EndsAfter
 pub mod SegmentsAfter
 pub mod SegmentsCarried
+pub mod ListsOfSteps
