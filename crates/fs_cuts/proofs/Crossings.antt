@@ -17,7 +17,7 @@ use Rattle.fs_cuts.proofs.Cuts as cuts
 use Rattle.fs_cuts.proofs.Halves as halves
 
 module _ {A : Type 0} {R : Operations A} {IsPositive : A → Type 0} {X Y : Type 0} {G : SideGluing X A} {H : SideGluing Y A} {kept : X → Y} {d e : Y} {v : Vector A} where
-  -- also where the two halves change places
+  -- also where the two sides of the cut are exchanged
   pub comes_mirrored : {y : Y} {P : Vector A} {x : X} {Q : Vector A} → ComesToSide R IsPositive G H kept d e v y P x Q → ComesToSide R IsPositive G H kept e d v y P x Q
   comes_mirrored (at_once k) = at_once k
   comes_mirrored (after_d D i j k) = after_e D i j k

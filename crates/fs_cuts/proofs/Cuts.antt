@@ -39,7 +39,7 @@ module _ {A : Type 0} {R : Operations A} {IsPositive : A → Type 0} (L : IsOrde
   pub vector_e : H.vector e ≡ neg_vector R (H.vector d)
   vector_e = ap H.vector (sym cut.twin_d) ∙ h.twin_opposite d cut.d_side
 
-  -- they lead to and fro
+  -- d, and then e, leads back
   pub across_and_back : (P : Vector A) → add_vector R (add_vector R P (H.vector d)) (H.vector e) ≡ P
   across_and_back P =
       ap (add_vector R (add_vector R P (H.vector d))) vector_e
@@ -95,7 +95,7 @@ module _ {A : Type 0} {R : Operations A} {IsPositive : A → Type 0} (L : IsOrde
       to_zero : add_vector R (neg_vector R (H.vector d)) (H.vector d) ≡ zero_vector R
       to_zero = vector_identity L.ring [] (H.vector d ∷ []) (λ d. add_vector E (neg_vector E d) d ≐ᵥ zero_vector E) refl
 
-  -- a cut is one too where its two sides, and the two sides before them, change places: what is shown of one half holds of the other
+  -- a cut is also one where its two sides, and the two sides before them, are exchanged: what is shown of one half holds of the other
   pub mirrored : IsCut R G H kept q p e d
   mirrored = record {
     p_side = cut.q_side;

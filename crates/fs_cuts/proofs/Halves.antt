@@ -21,7 +21,7 @@ module _ {A : Type 0} {R : Operations A} {X Y : Type 0} {G : SideGluing X A} {H 
   corner_of_lies (by_d f j k) = (G.next p, j)
   corner_of_lies (by_e f j k) = (G.next q, j)
 
-  -- the half lies in the polygon, too, where the two halves change places
+  -- the half also lies in the polygon where the two sides of the cut are exchanged
   pub lies_mirrored : {b : X} {B : Vector A} {y : Y} {P : Vector A} → LiesIn R G H kept p q d e b B y P → LiesIn R G H kept q p e d b B y P
   lies_mirrored (by_kept x k f j) = by_kept x k f j
   lies_mirrored (by_d f j k) = by_e f j k

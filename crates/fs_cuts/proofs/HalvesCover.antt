@@ -15,7 +15,7 @@ use Rattle.fs_cuts.specs.Halves.{LiesIn, by_kept, by_d, by_e, IsInHalves, here, 
 use Rattle.fs_cuts.proofs.Cuts as cuts
 
 module _ {A : Type 0} {R : Operations A} {X Y : Type 0} {G : SideGluing X A} {H : SideGluing Y A} {kept : X → Y} {p q : X} {d e : Y} where
-  -- also where the two halves change places
+  -- also where the two sides of the cut are exchanged
   in_halves_mirrored : {y : Y} {P : Vector A} {x : X} {Q : Vector A} → IsInHalves R G H kept p q d e y P x Q → IsInHalves R G H kept q p e d y P x Q
   in_halves_mirrored (here k) = here k
   in_halves_mirrored (across_d D j k) = across_e D j k

@@ -33,13 +33,13 @@ module _ {A : Type 0} (R : Operations A) {X Y : Type 0} (G : SideGluing X A) (H 
 
 module _ {A : Type 0} (R : Operations A) (IsPositive : A → Type 0) {X Y : Type 0} (G : SideGluing X A) (H : SideGluing Y A)
     (kept : X → Y) (p q : X) (d e : Y) where
-  -- after the cut the corner y is at the place of the corner c: it has the name of c, or the cut begins at c with y
+  -- the corner y after the cut is c or a part of it: it has the name of c, or it begins with the side of the cut that begins at c
   pub data IsCornerAt (c : X) (y : Y) : Type 0 where
     at_kept : y ≡ kept c → IsCornerAt c y
     at_e : c ≡ G.next q → y ≡ e → IsCornerAt c y
     at_d : c ≡ G.next p → y ≡ d → IsCornerAt c y
 
-  -- v leads from the corner c into its sector, and after the cut from y, at the same place, into the sector of y
+  -- v is in the sector of the corner c, and after the cut in that of y, which is c or a part of it
   pub record IsGerm (c : X) (v : Vector A) (y : Y) : Type 0 where
     pub start_side : IsSide G c
     pub start : InSectorOf R IsPositive G c v
