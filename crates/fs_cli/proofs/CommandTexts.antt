@@ -6,7 +6,6 @@ use Rattle.std.proofs.Math.Bool.{or_assoc, or-false}
 use Rattle.std.proofs.lemmas.List.{take_more, drop_more, take_all}
 use Rattle.std.specs.List.{AllByRecursion}
 use Rattle.fs_lists.specs.First.{IsFirstWithout}
-use Rattle.fs_lists.proofs.All.{All-append}
 use Rattle.fs_lists.proofs.First.{first_not_all, first_unique, first_or_all}
 use Rattle.fs_io.specs.Faults.{Rose}
 use Rattle.fs_gluing.specs.Surface.{GluedPolygons, IsSurface}
@@ -221,15 +220,9 @@ module _ (s : GluedPolygons) (budget : ℕ) (surface : IsSurface s) where
           never_falls = omega arith;
         }
 
--- ---- the corners that commands name
+-- ---- a corner that isn't there
 
 module _ (s : GluedPolygons) (commands : List Command) (i : ℕ) (x : Command) (h : i < length commands) (is : x ≡ get_or commands i x) where
-  -- those of one command more
-  pub corners_more : AllByRecursion (HasCorner s) (take i commands) → HasCorner s x → AllByRecursion (HasCorner s) (take (i + 1) commands)
-  corners_more all here =
-      subst (AllByRecursion (HasCorner s)) (sym (take_more commands i x h))
-      (All-append (HasCorner s) (take i commands) (get_or commands i x ∷ []) all (subst (HasCorner s) is here, tt))
-
   -- the first that isn't there
   pub first_missing : AllByRecursion (HasCorner s) (take i commands) → ¬ HasCorner s x → IsFirstWithout (HasCorner s) commands x
   first_missing all missing = record {
@@ -241,7 +234,3 @@ module _ (s : GluedPolygons) (commands : List Command) (i : ℕ) (x : Command) (
     passed = all;
     fails = missing;
   }
-
--- and all of them
-pub corners_all : (s : GluedPolygons) (commands : List Command) (i : ℕ) → length commands ≤ i → AllByRecursion (HasCorner s) (take i commands) → AllByRecursion (HasCorner s) commands
-corners_all s commands i h all = subst (AllByRecursion (HasCorner s)) (take_all i commands h) all

@@ -1,6 +1,7 @@
 // What a straight path finds at a corner of a polygon through which it runs.
 
 ghost use Rattle.std.specs.Prelude.{◌≡◌, ◌≤◌};
+ghost use Rattle.fs_quadratic.specs.Ring.{sign};
 ghost use Rattle.fs_gluing.specs.Limits.{most_sides};
 ghost use Rattle.fs_develop.specs.Looking.{look, look_at_corner, look_at_side};
 
@@ -8,7 +9,7 @@ use fs_plane::steps::{
     cross_after, dot_after, norm_after, vector_difference_after, vector_sum_after,
 };
 use fs_plane::{Place, V2};
-use fs_quadratic::Field;
+use fs_quadratic::{Elem, Field};
 use std::cmp::Ordering;
 
 // What a path finds at a corner: the corner is at this position, right of the path; or it is the last at which the
@@ -38,10 +39,22 @@ pub fn look(corners: u32, field: Field, v: V2, from: V2, side: V2) -> Result<Fin
 {
     let corner = vector_sum_after(5 * corners, from, side)?;
     let turn = cross_after(5 * corners + 2, field, v, corner)?;
-    match field.sign(turn) {
+    match sign(field, turn) {
         Ordering::Less => Ok(Finding::RightOfPath(corner)),
         Ordering::Equal => look_at_corner(field, v, corner),
         Ordering::Greater => look_at_side(field, v, from, side),
+    }
+}
+
+// The sign of a number. Without an r part it is that of the rational part: most paths have such numbers alone.
+#[inline]
+fn sign(field: Field, x: Elem) -> Ordering
+    ensures { result ≡ sign field.d x }
+{
+    if x.q() == 0 {
+        x.p().cmp(&0)
+    } else {
+        field.sign(x)
     }
 }
 
@@ -69,7 +82,7 @@ fn look_at_side(field: Field, v: V2, from: V2, side: V2) -> Result<Finding, Plac
 {
     let rest = vector_difference_after(6010, v, from)?;
     let turn = cross_after(6012, field, side, rest)?;
-    if field.sign(turn) == Ordering::Less {
+    if sign(field, turn) == Ordering::Less {
         Ok(Finding::Last(Departure::Crosses))
     } else {
         Ok(Finding::Last(Departure::EndsBefore))

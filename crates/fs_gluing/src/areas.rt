@@ -1,41 +1,31 @@
-// The area of a surface.
+// The sum of the triangles of a surface.
 
-ghost use Rattle.std.specs.Prelude.{◌≡◌, ◌<◌, ◌≤◌, [], ◌∷◌, IfOk, IfSome, length, drop};
-ghost use Rattle.std.specs.List.{slice_get};
+ghost use Rattle.std.specs.Prelude.{◌≡◌, ◌≤◌, List, [], ◌∷◌, length, map, drop};
+ghost use Rattle.std.specs.List.{AllByRecursion};
 ghost use Rattle.fs_quadratic.specs.Ring.{zero};
-ghost use Rattle.fs_gluing.specs.Limits.{most_sides};
-ghost use Rattle.fs_gluing.specs.Area.{triangles, triangles_from, triangles_of, twice_area, sum_after};
+ghost use Rattle.fs_gluing.specs.declared.surfaces.Side.{Side};
+ghost use Rattle.fs_gluing.specs.Limits.{most_polygons, most_sides};
+ghost use Rattle.fs_gluing.specs.Area.{all_triangles, triangles_from, sum_after};
+ghost use Rattle.fs_gluing.specs.Positions.{all_positions};
 ghost use Rattle.fs_gluing.specs.Surface.{side_vectors};
 
-use crate::surfaces::Surface;
+use crate::sequence::Sequence;
 use fs_plane::{Corner, Place, Site, V2, cross};
 use fs_quadratic::{Elem, Field};
 
-impl Surface {
-    /// Twice the area of the surface, times the square of the denominator.
-    ///
-    /// It is the sum over the triangles into which the diagonals from corner 0 cut each polygon, in
-    /// order. The site is that of the first triangle, by its polygon and its second corner, whose
-    /// cross product (places 1 to 3) or whose sum with the triangles before (place 4) overflows.
-    pub fn twice_area(&self) -> Result<Elem, Site>
-        ensures formula { result ≡ sum_after self.now.d zero (triangles self.now) }
-        ensures area { IfOk result (λ x. x ≡ twice_area self.now) }
-    {
-        let mut sum = Elem::ZERO;
-        for i in 0..self.polygons() {
-            sum = self.add_polygon(sum, i)?;
-        }
-        Ok(sum)
+// The sum of the triangles of the polygons whose corners have these positions, or the first site where
+// it overflows.
+pub fn sum_triangles(field: Field, positions: &[Sequence<V2>]) -> Result<Elem, Site>
+    requires few { length positions.now ≤ most_polygons }
+    requires short { AllByRecursion (λ row. length row ≤ most_sides) positions.now }
+    ensures { (polygons : List (List Side)) → positions.now ≡ all_positions (map side_vectors polygons)
+        → result ≡ sum_after field.d zero (all_triangles 0 (map side_vectors polygons)) }
+{
+    let mut sum = Elem::ZERO;
+    for (i, row) in positions.iter().enumerate() {
+        sum = add_triangles(field, sum, i as u16, row.as_slice())?;
     }
-
-    // A sum and the triangles of polygon i.
-    fn add_polygon(&self, sum: Elem, i: u16) -> Result<Elem, Site>
-        requires { i < length self.now.polygons }
-        ensures { IfSome (slice_get self.now.polygons i)
-            (λ polygon. result ≡ sum_after self.now.d sum (triangles_of i (side_vectors polygon))) }
-    {
-        add_triangles(self.field(), sum, i, self.positions(i))
-    }
+    Ok(sum)
 }
 
 // A sum and the triangles of polygon i, whose corners have these positions.

@@ -1,11 +1,12 @@
 // Translation surfaces.
 
-ghost use Rattle.std.specs.Prelude.{◌≡◌, Some, length, sum_by, ◌+◌, ◌<◌, ◌↔◌, IsTrue, IfSome};
+ghost use Rattle.std.specs.Prelude.{◌≡◌, Some, length, sum_by, ◌+◌, ◌<◌, ◌↔◌, IsTrue, IfOk, IfSome};
 ghost use Rattle.std.specs.List.{slice_get};
 
+use crate::areas::sum_triangles;
 use crate::sequence::Sequence;
-use fs_plane::{Corner, V2};
-use fs_quadratic::Field;
+use fs_plane::{Corner, Site, V2};
+use fs_quadratic::{Elem, Field};
 use std::marker::Model;
 
 /// A side of a polygon: its scaled vector and the side that it is glued to.
@@ -29,10 +30,14 @@ pub struct Surface {
     den: i128,
     polygons: Sequence<Sequence<Side>>,
     positions: Sequence<Sequence<V2>>,
+    // Twice its area, which each `stratum` of a job asks for.
+    area: Result<Elem, Site>,
 }
 
 impl Model for Surface {
     ghost use Rattle.std.specs.Prelude.{◌≡◌, map};
+    ghost use Rattle.fs_quadratic.specs.Ring.{zero};
+    ghost use Rattle.fs_gluing.specs.Area.{all_triangles, sum_after};
     ghost use Rattle.fs_gluing.specs.Positions.{all_positions};
     ghost use Rattle.fs_gluing.specs.Surface.{GluedPolygons, IsSurface, side_vectors};
 
@@ -41,14 +46,17 @@ impl Model for Surface {
     ghost view = { λ s. record { d = s.field.d; straight = s.straight; den = s.den; polygons = s.polygons } };
 
     ghost invariant = { λ s. IsSurface (record { d = s.field.d; straight = s.straight; den = s.den; polygons = s.polygons })
-        × (s.positions ≡ all_positions (map side_vectors s.polygons)) };
+        × (s.positions ≡ all_positions (map side_vectors s.polygons))
+        × (s.area ≡ sum_after s.field.d zero (all_triangles 0 (map side_vectors s.polygons))) };
 }
 
 impl Surface {
     ghost use Rattle.std.specs.Prelude.{map};
+    ghost use Rattle.fs_quadratic.specs.Ring.{zero};
     ghost use Rattle.fs_plane.specs.Vector.{vector_zero, vector_add};
+    ghost use Rattle.fs_gluing.specs.Area.{triangles, twice_area, sum_after};
     ghost use Rattle.fs_gluing.specs.Convex.{corner_position};
-    ghost use Rattle.fs_gluing.specs.Positions.{all_positions, positions_from};
+    ghost use Rattle.fs_gluing.specs.Positions.{all_positions};
     ghost use Rattle.fs_gluing.specs.Polygons.{at_side, HasSide};
     ghost use Rattle.fs_gluing.specs.Surface.{IsSurface, side_vectors};
     ghost use Rattle.fs_gluing.specs.NextCorner.{IsNextCorner, AreOnePoint, side_before, corner_after};
@@ -65,12 +73,14 @@ impl Surface {
         requires positions { positions ≡ all_positions (map side_vectors polygons) }
         ensures { result ≡ record { d = field.d; straight = straight; den = den; polygons = polygons } }
     {
+        let area = sum_triangles(field, positions.as_slice());
         Surface {
             field,
             straight,
             den,
             polygons,
             positions,
+            area,
         }
     }
 
@@ -153,12 +163,17 @@ impl Surface {
         positions[c.side as usize]
     }
 
-    // The positions of the corners of polygon i, where corner 0 is at (0,0).
-    pub(crate) fn positions(&self, i: u16) -> &[V2]
-        requires { i < length self.now.polygons }
-        ensures { IfSome (slice_get self.now.polygons i) (λ polygon. result.now ≡ positions_from vector_zero (side_vectors polygon)) }
+    /// Twice the area of the surface, times the square of the denominator. Takes no time: it was
+    /// found when the surface was built.
+    ///
+    /// It is the sum over the triangles into which the diagonals from corner 0 cut each polygon, in
+    /// order. The site is that of the first triangle, by its polygon and its second corner, whose
+    /// cross product (places 1 to 3) or whose sum with the triangles before (place 4) overflows.
+    pub fn twice_area(&self) -> Result<Elem, Site>
+        ensures formula { result ≡ sum_after self.now.d zero (triangles self.now) }
+        ensures area { IfOk result (λ x. x ≡ twice_area self.now) }
     {
-        self.positions.as_slice()[i as usize].as_slice()
+        self.area
     }
 
     /// The next corner counterclockwise round the vertex of a corner: the start of the side that

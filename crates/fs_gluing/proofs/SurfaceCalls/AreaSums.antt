@@ -1,14 +1,14 @@
 -- The sum of the triangles of a surface, polygon by polygon, and that it is twice the area.
-use Rattle.std.proofs.Common.{◌≡◌, ℕ, ◌+◌, ◌-◌, ◌<◌, ◌≤◌, Bool, true, false, Result, Ok, Err, Some, List, [], ◌∷◌, ◌++◌, length, map, drop, sym, ap, ◌∙◌, refl, subst, arith}
+use Rattle.std.proofs.Common.{◌≡◌, ℕ, ◌+◌, ◌-◌, ◌<◌, ◌≤◌, Bool, true, false, Result, Ok, Err, Some, List, [], ◌∷◌, ◌++◌, length, map, drop, get_or, sym, ap, ◌∙◌, refl, subst, arith}
 use Rattle.std.proofs.lemmas.List.{drop_all, drop_more, length-map, length-drop}
 use Rattle.std.proofs.lemmas.Option.{slice_get-map, slice_get_within, get_or_from_slice_get, IfSome_then}
 use Rattle.std.specs.Option.{IfSome, option_map}
 use Rattle.std.specs.Bool.{Decides}
 use Rattle.std.specs.Result.{IfOk}
-use Rattle.std.specs.List.{slice_get}
+use Rattle.std.specs.List.{slice_get, AllByRecursion}
 use Rattle.fs_lists.proofs.Sums.{each_length}
 use Rattle.fs_lists.proofs.Items.{IsItem, drop_item, item_inside, value_holds}
-use Rattle.fs_lists.proofs.All.{All-slice_get}
+use Rattle.fs_lists.proofs.All.{All-map, All-weaker, All-slice_get}
 use Rattle.fs_ring.specs.Operations.{Operations}
 use Rattle.fs_ring.specs.CommutativeRing.{IsCommutativeRing}
 use Rattle.fs_ring.specs.Vector as plane
@@ -27,12 +27,12 @@ use Rattle.fs_plane.specs.Vector.{vector_zero, cross, PlaneVector}
 use Rattle.fs_quadratic.specs.Checked.{◌>>=◌, checked_sum, step}
 use Rattle.fs_plane.specs.Formulas.{cross_after}
 use Rattle.fs_plane.proofs.FormulaLaws.{cross_value}
-use Rattle.fs_gluing.specs.Limits.{most_sides}
+use Rattle.fs_gluing.specs.Limits.{most_polygons, most_sides}
 use Rattle.fs_gluing.specs.declared.surfaces.Side.{Side}
 use Rattle.fs_gluing.specs.Area.{Triangle, triangles_from, triangles_of, all_triangles, triangles, twice_triangle, twice_area, add_triangle, continued, sum_after}
-use Rattle.fs_gluing.specs.Positions.{positions_from}
+use Rattle.fs_gluing.specs.Positions.{positions_from, all_positions}
 use Rattle.fs_gluing.specs.Surface.{GluedPolygons, IsSurface, side_vectors}
-use Rattle.fs_gluing.proofs.SurfaceCalls.Positions.{length-positions_from}
+use Rattle.fs_gluing.proofs.SurfaceCalls.Positions.{length-positions_from, row_positions}
 
 -- ---- the sum over two lists of triangles
 
@@ -126,22 +126,39 @@ added_all d sum i positions j total l a =
 
 -- ---- polygon by polygon
 
--- a polygon has at most 1,024 positions
-pub few_positions : (s : GluedPolygons) (i : ℕ) (positions : List PlaneVector) → IsSurface s → i < length s.polygons
-    → IfSome (slice_get s.polygons i) (λ polygon. positions ≡ positions_from vector_zero (side_vectors polygon)) → length positions ≤ most_sides
-few_positions s i positions surface l h =
-    let v = item_inside s.polygons i l in
-    let is : positions ≡ positions_from vector_zero (side_vectors v.value) = value_holds (slice_get s.polygons i) (λ polygon. positions ≡ positions_from vector_zero (side_vectors polygon)) v.value v.is h in
-    let same : length positions ≡ length v.value = ap length is ∙ length-positions_from vector_zero (side_vectors v.value) ∙ length-map v.value (λ side. side.vector) in
-    subst (λ n. n ≤ most_sides) (sym same) (All-slice_get (λ polygon. length polygon ≤ most_sides) s.polygons i v.value (each_length s.polygons most_sides surface.sides) v.is)
+-- there is a row of positions for each polygon
+rows_count : (polygons : List (List Side)) → length (all_positions (map side_vectors polygons)) ≡ length polygons
+rows_count polygons = length-map (map side_vectors polygons) (positions_from vector_zero) ∙ length-map polygons side_vectors
 
--- the triangles of a polygon are added to a sum
-pub polygon_added : (polygons : List (List Side)) (i d d' : ℕ) (sum : Quadratic) (positions : List PlaneVector) (r : Result Quadratic Site) → d' ≡ d
-    → IfSome (slice_get polygons i) (λ polygon. positions ≡ positions_from vector_zero (side_vectors polygon)) → r ≡ sum_after d' sum (triangles_at i 1 positions)
+-- a surface has at most 256 rows of positions
+pub few_rows : (s : GluedPolygons) (positions : List (List PlaneVector)) → IsSurface s → positions ≡ all_positions (map side_vectors s.polygons) → length positions ≤ most_polygons
+few_rows s positions surface same = subst (λ n. n ≤ most_polygons) (sym (ap length same ∙ rows_count s.polygons)) surface.polygons
+
+-- each of them has at most 1,024 positions
+pub short_rows : (s : GluedPolygons) (positions : List (List PlaneVector)) → IsSurface s → positions ≡ all_positions (map side_vectors s.polygons)
+    → AllByRecursion (λ row. length row ≤ most_sides) positions
+short_rows s positions surface same =
+    let short : (polygon : List Side) → length polygon ≤ most_sides → length (positions_from vector_zero (side_vectors polygon)) ≤ most_sides =
+    λ polygon l. subst (λ n. n ≤ most_sides) (sym (length-positions_from vector_zero (side_vectors polygon) ∙ length-map polygon (λ side. side.vector))) l in
+    subst (AllByRecursion (λ (row : List PlaneVector). length row ≤ most_sides)) (sym same)
+    (All-map (positions_from vector_zero) (λ row. length row ≤ most_sides) (map side_vectors s.polygons)
+    (All-map side_vectors (λ vectors. length (positions_from vector_zero vectors) ≤ most_sides) s.polygons
+    (All-weaker s.polygons short (each_length s.polygons most_sides surface.sides))))
+
+-- a row of them, too
+pub row_short : (positions : List (List PlaneVector)) (i : ℕ) (row : List PlaneVector) → AllByRecursion (λ row. length row ≤ most_sides) positions → IsItem positions i row → length row ≤ most_sides
+row_short positions i row short item =
+    let v = item_inside positions i item.inside in
+    subst (λ n. n ≤ most_sides) (ap length (sym (item.is ∙ get_or_from_slice_get positions i v.value row v.is)))
+    (All-slice_get (λ row. length row ≤ most_sides) positions i v.value short v.is)
+
+-- the triangles of a polygon, by the row of its positions, are added to a sum
+polygon_added : (polygons : List (List Side)) (positions : List (List PlaneVector)) (i d : ℕ) (sum : Quadratic) (row : List PlaneVector) (r : Result Quadratic Site)
+    → positions ≡ all_positions (map side_vectors polygons) → IsItem positions i row → r ≡ sum_after d sum (triangles_at i 1 row)
     → IfSome (slice_get polygons i) (λ polygon. r ≡ sum_after d sum (triangles_of i (side_vectors polygon)))
-polygon_added polygons i d d' sum positions r same is e =
-    IfSome_then (slice_get polygons i) is
-    (λ polygon here. e ∙ ap (λ n. sum_after n sum (triangles_at i 1 positions)) same ∙ ap (λ ps. sum_after d sum (triangles_at i 1 ps)) here)
+polygon_added polygons positions i d sum row r same item e =
+    IfSome_then (slice_get polygons i) (row_positions polygons i row (item.is ∙ ap (λ ps. get_or ps i row) same))
+    (λ polygon here. e ∙ ap (λ ps. sum_after d sum (triangles_at i 1 ps)) here)
 
 -- the triangles of the polygons from i on
 abbrev triangles_after : List (List Side) → ℕ → List Triangle
@@ -160,7 +177,7 @@ pub record SumsPolygonsUpTo (d : ℕ) (polygons : List (List Side)) (i : ℕ) (s
   pub is : sum_after d ring.zero (triangles_after polygons 0) ≡ sum_after d sum (triangles_after polygons i)
 
 -- one more polygon is added
-pub summed_more : (d : ℕ) (polygons : List (List Side)) (i : ℕ) (sum next : Quadratic) → i < length polygons
+summed_more : (d : ℕ) (polygons : List (List Side)) (i : ℕ) (sum next : Quadratic) → i < length polygons
     → IfSome (slice_get polygons i) (λ polygon. Ok next ≡ sum_after d sum (triangles_of i (side_vectors polygon))) → SumsPolygonsUpTo d polygons i sum → SumsPolygonsUpTo d polygons (i + 1) next
 summed_more d polygons i sum next l h s =
     let v = item_inside polygons i l in
@@ -172,7 +189,7 @@ summed_more d polygons i sum next l h s =
     }
 
 -- the next polygon has a site, and it is the site of the whole sum
-pub summed_stops : (d : ℕ) (polygons : List (List Side)) (i : ℕ) (sum : Quadratic) (site : Site) → i < length polygons
+summed_stops : (d : ℕ) (polygons : List (List Side)) (i : ℕ) (sum : Quadratic) (site : Site) → i < length polygons
     → IfSome (slice_get polygons i) (λ polygon. Err site ≡ sum_after d sum (triangles_of i (side_vectors polygon))) → SumsPolygonsUpTo d polygons i sum
     → Err site ≡ sum_after d ring.zero (triangles_after polygons 0)
 summed_stops d polygons i sum site l h s =
@@ -183,12 +200,33 @@ summed_stops d polygons i sum site l h s =
     (value_holds (slice_get polygons i) (λ polygon. Err site ≡ sum_after d sum (triangles_of i (side_vectors polygon))) v.value v.is h))
 
 -- after all polygons the sum has all triangles
-pub summed_all : (d : ℕ) (polygons : List (List Side)) (n : ℕ) (sum : Quadratic) → length polygons ≤ n → SumsPolygonsUpTo d polygons n sum
+summed_all : (d : ℕ) (polygons : List (List Side)) (n : ℕ) (sum : Quadratic) → length polygons ≤ n → SumsPolygonsUpTo d polygons n sum
     → Ok sum ≡ sum_after d ring.zero (triangles_after polygons 0)
 summed_all d polygons n sum l s =
     let rows : List (List PlaneVector) = map side_vectors polygons in
     let long : length rows ≤ n = omega (arith, length-map polygons side_vectors) in
     sym (s.is ∙ ap (λ r. sum_after d sum (all_triangles n r)) (drop_all n rows long))
+
+-- ---- row by row of positions
+
+-- one more row is added
+pub row_summed : (d : ℕ) (polygons : List (List Side)) (positions : List (List PlaneVector)) (i : ℕ) (sum next : Quadratic) (row : List PlaneVector)
+    → positions ≡ all_positions (map side_vectors polygons) → IsItem positions i row → Ok next ≡ sum_after d sum (triangles_at i 1 row) → SumsPolygonsUpTo d polygons i sum
+    → SumsPolygonsUpTo d polygons (i + 1) next
+row_summed d polygons positions i sum next row same item e s =
+    summed_more d polygons i sum next (subst (λ n. i < n) (ap length same ∙ rows_count polygons) item.inside) (polygon_added polygons positions i d sum row (Ok next) same item e) s
+
+-- the next row has a site, and it is the site of the whole sum
+pub row_stops : (d : ℕ) (polygons : List (List Side)) (positions : List (List PlaneVector)) (i : ℕ) (sum : Quadratic) (site : Site) (row : List PlaneVector)
+    → positions ≡ all_positions (map side_vectors polygons) → IsItem positions i row → Err site ≡ sum_after d sum (triangles_at i 1 row) → SumsPolygonsUpTo d polygons i sum
+    → Err site ≡ sum_after d ring.zero (all_triangles 0 (map side_vectors polygons))
+row_stops d polygons positions i sum site row same item e s =
+    summed_stops d polygons i sum site (subst (λ n. i < n) (ap length same ∙ rows_count polygons) item.inside) (polygon_added polygons positions i d sum row (Err site) same item e) s
+
+-- after all rows the sum has all triangles
+pub rows_summed : (d : ℕ) (polygons : List (List Side)) (positions : List (List PlaneVector)) (n : ℕ) (sum : Quadratic) → positions ≡ all_positions (map side_vectors polygons)
+    → length positions ≤ n → SumsPolygonsUpTo d polygons n sum → Ok sum ≡ sum_after d ring.zero (all_triangles 0 (map side_vectors polygons))
+rows_summed d polygons positions n sum same l s = summed_all d polygons n sum (subst (λ k. k ≤ n) (ap length same ∙ rows_count polygons) l) s
 
 -- ---- what the sum is
 

@@ -1,0 +1,5 @@
+pub mod Cuts
+pub mod Halves
+pub mod EdgeRemoval
+pub mod Renumberings
+pub mod CutAndPaste
