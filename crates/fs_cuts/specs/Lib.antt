@@ -3,3 +3,4 @@ pub mod Halves
 pub mod EdgeRemoval
 pub mod Renumberings
 pub mod CutAndPaste
+pub mod Equality

@@ -16,14 +16,14 @@ use Rattle.fs_quadratic.proofs.Signs.{sign-negative, negative_of_sign, positive_
 use Rattle.fs_quadratic.proofs.Laws.{field_order}
 use Rattle.fs_plane.specs.Vector.{PlaneVector, vector_add, cross, dot, is_same_vector}
 use Rattle.fs_plane.specs.Formulas.{cross_after, dot_after, norm_after, vector_sum_after, vector_difference_after}
-use Rattle.fs_plane.proofs.FormulaLaws.{cross_value, dot_value, norm_value}
+use Rattle.fs_plane.proofs.FormulaLaws.{cross_value, dot_value, norm_value, sum_value, difference_value}
 use Rattle.fs_plane.proofs.ComputedSigns.{after_value}
 use Rattle.fs_plane.proofs.EqualVectors.{Decides-is_same_vector}
 use Rattle.fs_develop.specs.declared.looking.Finding.{Finding}
 use Rattle.fs_develop.specs.declared.looking.Finding.TheVariants.{RightOfPath, Last}
 use Rattle.fs_develop.specs.declared.looking.Departure.TheVariants.{EndsAtCorner, MeetsCorner, EndsBefore, Crosses}
 use Rattle.fs_develop.specs.Looking.{look, look_at_corner, look_at_side, by_side}
-use Rattle.fs_develop.proofs.Values.{sum_value, difference_value, less_of, not_less_of}
+use Rattle.fs_develop.proofs.Values.{less_of, not_less_of}
 
 module _ {d : ℕ} (radicand : IsRadicand d) (t : ℕ) (v from side : PlaneVector) where
   -- the corner to which the side leads

@@ -20,7 +20,7 @@ use Rattle.fs_plane.specs.declared.sites.Site.TheVariants as sites
 use Rattle.fs_gluing.specs.Scaling.{IsMultipleOf, scaled_vector}
 use Rattle.fs_gluing.specs.Surface.{GluedPolygons}
 use Rattle.fs_develop.specs.Grid.{multiple_after, scale_to, GivesScaled}
-use Rattle.fs_develop.proofs.Values.{step_value}
+use Rattle.fs_quadratic.proofs.StepChains.{step_value}
 
 -- the test of the remainder tells whether m divides n
 pub divides_by_rest : (m n : ℕ) → IsTrue (n % m == 0) ↔ (m ∣ n)

@@ -16,3 +16,5 @@ pub mod FirstFault
 pub mod TestsInOrder
 pub mod SearchMarks
 pub mod Area
+pub mod Triangulation
+pub mod FirstCut

@@ -8,3 +8,7 @@ most_polygons = 256
 -- the most sides of a surface, those of all its polygons counted
 abbrev pub most_sides : ℕ
 most_sides = 1024
+
+-- the most faces of a triangulation of a surface: a polygon of n sides has n - 2
+abbrev pub most_faces : ℕ
+most_faces = 1022

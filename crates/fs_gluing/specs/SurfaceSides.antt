@@ -1,8 +1,8 @@
 -- The sides of polygons as a gluing by names, in which the name of a side is the corner where it begins.
-use Rattle.std.specs.Prelude.{List, Option, Some, None, is_some}
-use Rattle.fs_quadratic.specs.Ring.{Quadratic}
+use Rattle.std.specs.Prelude.{ℕ, Bool, List, Option, Some, None, is_some}
+use Rattle.fs_quadratic.specs.Ring.{Quadratic, sign}
 use Rattle.fs_plane.specs.declared.corners.Corner.{Corner}
-use Rattle.fs_plane.specs.Vector.{vector_zero, PlaneVector}
+use Rattle.fs_plane.specs.Vector.{vector_zero, PlaneVector, cross, dot, upper_by_signs}
 use Rattle.fs_paths.specs.SideGluing.{SideGluing}
 use Rattle.fs_gluing.specs.declared.surfaces.Side.{Side}
 use Rattle.fs_gluing.specs.Polygons.{at_side}
@@ -35,3 +35,7 @@ polygon_sides polygons = record {
   twin = partner polygons;
   vector = vector_of polygons;
 }
+
+-- x is in the half plane of v: left of v, or along it
+abbrev pub is_ahead : ℕ → PlaneVector → PlaneVector → Bool
+is_ahead d v x = upper_by_signs (sign d (cross d v x)) (sign d (dot d v x))

@@ -13,6 +13,7 @@ mod scaling;
 mod sequence;
 mod shapes;
 mod surfaces;
+mod triangulations;
 
 pub use building::build;
 pub use faults::{BuildStop, Fault};
@@ -20,3 +21,4 @@ pub use limits::{MOST_POLYGONS, MOST_SIDES};
 pub use sequence::Sequence;
 pub use shapes::{Glue, Point, Shape};
 pub use surfaces::{Side, Surface};
+pub use triangulations::{Triangles, Way};

@@ -4,6 +4,7 @@ use crate::common::expect_vector;
 use fs_gluing::{Glue, Point, Sequence};
 use fs_job::{Command, Form, print_site, read_job};
 use fs_plane::{Corner, Site};
+use std::alloc::Global;
 use std::process::Abort;
 use std::test::Fail;
 
@@ -55,44 +56,147 @@ fn what_a_job_says(rt: HostRuntime) -> Result<(), Fail> {
 
 #[test]
 fn sites_as_they_are_printed(rt: HostRuntime) -> Result<(), Fail> {
+    let (polygon, side, corner, place) = (255, 1023, 20, 4);
     let rows = [
         (
             Site::Scale {
-                polygon: 0,
-                side: 2,
-                place: 1,
+                polygon,
+                side,
+                place,
             },
-            "scale 0 2 1",
+            "scale 255 1023 4",
         ),
         (
             Site::Close {
-                polygon: 255,
-                side: 1023,
-                place: 2,
+                polygon,
+                side,
+                place,
             },
-            "close 255 1023 2",
+            "close 255 1023 4",
         ),
         (
             Site::Corner {
-                polygon: 10,
-                side: 0,
-                place: 3,
+                polygon,
+                side,
+                place,
             },
-            "corner 10 0 3",
+            "corner 255 1023 4",
         ),
         (
             Site::Area {
-                polygon: 3,
-                corner: 20,
-                place: 4,
+                polygon,
+                corner,
+                place,
             },
-            "area 3 20 4",
+            "area 255 20 4",
         ),
-        (Site::AreaScale { place: 2 }, "areascale 2"),
+        (Site::AreaScale { place }, "areascale 4"),
+        (Site::Grid { place }, "grid 4"),
+        (Site::Enter { place }, "enter 4"),
+        (
+            Site::Walk {
+                crossings: 99,
+                place,
+            },
+            "walk 99 4",
+        ),
+        (Site::TableScale { side, place }, "tscale 1023 4"),
+        (Site::TableClose { side, place }, "tclose 1023 4"),
+        (Site::TableCorner { side, place }, "tcorner 1023 4"),
+        (Site::Reflect { side, place }, "reflect 1023 4"),
+        (
+            Site::Product {
+                product: 23,
+                side,
+                place,
+            },
+            "product 23 1023 4",
+        ),
+        (
+            Site::Copy {
+                copy: 23,
+                side,
+                place,
+            },
+            "copy 23 1023 4",
+        ),
     ];
     for (site, text) in rows {
-        let printed = print_site(rt.alloc(), &site).ok().ok_or("no memory")?;
-        assert!(rt; printed.as_str() == text, "{text}");
+        assert!(rt; prints(rt.alloc(), &site, text)?, "{text}");
     }
     Ok(())
+}
+
+#[test]
+fn sites_of_edges_and_events_as_they_are_printed(rt: HostRuntime) -> Result<(), Fail> {
+    let (polygon, side, place) = (3, 0, 6020);
+    let rows = [
+        (
+            Site::Circle {
+                flips: 0,
+                edge: 17,
+                place,
+            },
+            "circle 0 17 6020",
+        ),
+        (
+            Site::Flip {
+                flips: 1000000,
+                edge: 17,
+                place,
+            },
+            "flip 1000000 17 6020",
+        ),
+        (Site::Bound { place }, "bound 6020"),
+        (
+            Site::First {
+                half_edge: 5,
+                place,
+            },
+            "first 5 6020",
+        ),
+        (Site::Fan { word: 8, place }, "fan 8 6020"),
+        (Site::Keep { vector: 9, place }, "keep 9 6020"),
+        (Site::Home { ray: 10, place }, "home 10 6020"),
+        (
+            Site::Letter {
+                polygon,
+                side,
+                place,
+            },
+            "letter 3 0 6020",
+        ),
+        (
+            Site::Shift {
+                polygon,
+                side,
+                place,
+            },
+            "shift 3 0 6020",
+        ),
+        (
+            Site::Event {
+                event: 4294967295,
+                place,
+            },
+            "event 4294967295 6020",
+        ),
+        (
+            Site::Value {
+                component: 2,
+                place,
+            },
+            "value 2 6020",
+        ),
+    ];
+    for (site, text) in rows {
+        assert!(rt; prints(rt.alloc(), &site, text)?, "{text}");
+    }
+    Ok(())
+}
+
+// Whether the site is printed as that text.
+fn prints(alloc: Global, site: &Site, text: &str) -> Result<bool, Fail> {
+    let printed = print_site(alloc, site).ok().ok_or("no memory")?;
+    Ok(printed.as_str() == text)
 }

@@ -1,15 +1,17 @@
 -- Laws of the formulas: they give the values of the plane exactly where all numbers fit, and else the first place where one doesn't. A library for crates to come.
-use Rattle.std.proofs.Common.{◌≡◌, ℕ, Result, Ok, Err, IfOk, ◌↔◌, sym}
+use Rattle.std.proofs.Common.{◌≡◌, ℕ, ◌+◌, Bool, Result, Ok, Err, IfOk, ◌↔◌, sym, ap, ◌∙◌}
 use Rattle.std.proofs.lemmas.Result.{OkIff-at_ok, Ok-from_Ok_iff}
 use Rattle.std.specs.Result.{OkIff}
-use Rattle.fs_quadratic.specs.Ring.{Quadratic, add, sub, mul}
+use Rattle.fs_quadratic.specs.Ring.{Quadratic, add, sub, mul, quadratic}
 use Rattle.fs_quadratic.specs.Width.{Fits, MulFits, is_fitting, is_fitting_mul}
 use Rattle.fs_quadratic.proofs.WidthTests.{Decides-is_fitting, Decides-is_fitting_mul}
 use Rattle.fs_quadratic.specs.declared.steps.Place.{Place}
-use Rattle.fs_plane.specs.Vector.{PlaneVector, cross, dot, norm}
-use Rattle.fs_quadratic.specs.Checked.{shifted, IsFirstOfThree}
-use Rattle.fs_plane.specs.Formulas.{cross_after, dot_after, norm_after, CrossFits, DotFits}
-use Rattle.fs_quadratic.proofs.StepChains.{chain_ok, chain_stops, chain-shifted}
+use Rattle.fs_plane.specs.Vector.{PlaneVector, vector_add, cross, dot, norm}
+use Rattle.fs_quadratic.specs.Checked.{step, shifted, ◌>>=◌, IsFirstOfThree}
+use Rattle.fs_plane.specs.Formulas.{cross_after, dot_after, norm_after, vector_sum_after, vector_difference_after, CrossFits, DotFits}
+use Rattle.fs_quadratic.proofs.StepChains.{chain_ok, chain_stops, chain-shifted, step_value}
+use Rattle.fs_ring.specs.Vector.{sub_vector}
+use Rattle.fs_plane.proofs.ComputedSigns.{after_value}
 
 module _ (before d : ℕ) (a b : PlaneVector) where
   -- ---- the cross product
@@ -88,3 +90,27 @@ dot_after-shifted before d a b =
 pub norm_after-shifted : (before d : ℕ) (a : PlaneVector) → norm_after before d a ≡ shifted before (norm_after 0 d a)
 unfolding norm_after
 norm_after-shifted before d a = dot_after-shifted before d a a
+
+-- ---- sums and differences of vectors
+
+pair_value : (n m : ℕ) (one two : Bool) (x y : Quadratic) (q : PlaneVector)
+    → step n one x >>= (λ a. step m two y >>= (λ b. Ok (record { x = a; y = b }))) ≡ Ok q → q ≡ record { x = x; y = y }
+pair_value n m one two x y q e =
+    let first = after_value (step n one x) (λ a. step m two y >>= (λ b. Ok (record { x = a; y = b }))) q e in
+    let second = after_value (step m two y) (λ b. Ok (record { x = first.0; y = b })) q first.2 in
+    let same_x = step_value n one x first.0 first.1 in
+    let same_y = step_value m two y second.0 second.1 in
+    same_ok second.2 ∙ ap (λ a. record { x = a; y = second.0 }) same_x ∙ ap (λ b. record { x = x; y = b }) same_y
+  where
+    same_ok : {a b : PlaneVector} → ◌≡◌ {A = Result PlaneVector Place} (Ok a) (Ok b) → b ≡ a
+    same_ok f = cc
+
+-- a sum of vectors that is given is the sum
+pub sum_value : (before : ℕ) (a b q : PlaneVector) → vector_sum_after before a b ≡ Ok q → q ≡ vector_add a b
+unfolding vector_sum_after
+sum_value before a b q e = pair_value (before + 1) (before + 2) (is_fitting (add a.x b.x)) (is_fitting (add a.y b.y)) (add a.x b.x) (add a.y b.y) q e
+
+-- a difference of vectors that is given is the difference
+pub difference_value : (d before : ℕ) (a b q : PlaneVector) → vector_difference_after before a b ≡ Ok q → q ≡ sub_vector (quadratic d) a b
+unfolding vector_difference_after
+difference_value d before a b q e = pair_value (before + 1) (before + 2) (is_fitting (sub a.x b.x)) (is_fitting (sub a.y b.y)) (sub a.x b.x) (sub a.y b.y) q e

@@ -41,6 +41,20 @@ vector_difference_after before a b = do
   y ← checked_difference (before + 2) a.y b.y
   Ok (record { x = x; y = y })
 
+-- (a×b)·(c·g), a half of the circle value
+unfoldable pub circle_term_after : ℕ → ℕ → PlaneVector → PlaneVector → PlaneVector → PlaneVector → Result Quadratic Place
+circle_term_after before d a b c g = do
+  area ← cross_after before d a b
+  angle ← dot_after (before + 3) d c g
+  checked_product d (before + 7) area angle
+
+-- (a×b)·(c·g) + (c×g)·(a·b)
+unfoldable pub circle_after : ℕ → ℕ → PlaneVector → PlaneVector → PlaneVector → PlaneVector → Result Quadratic Place
+circle_after before d a b c g = do
+  left ← circle_term_after before d a b c g
+  right ← circle_term_after (before + 7) d c g a b
+  checked_sum (before + 15) left right
+
 -- whether a number that is computed is above 0
 abbrev pub is_above_zero : ℕ → Result Quadratic Place → Result Bool Place
 is_above_zero d computed = computed >>= (λ x. Ok (is_gt (sign d x)))

@@ -6,6 +6,7 @@ use Rattle.std.specs.declared.cmp.Ordering.TheVariants.{Less, Equal, Greater}
 use Rattle.fs_ring.specs.Vector as plane
 use Rattle.fs_ring.specs.Vector.{Vector}
 use Rattle.fs_ring.specs.Direction.{InSector, InHalfPlane}
+use Rattle.fs_ring.specs.Circle.{IsInsideCircle}
 use Rattle.fs_quadratic.specs.Ring.{Quadratic, quadratic, zero, one, add, neg, sign, IsPositive}
 use Rattle.fs_quadratic.specs.Width.{IsSmall, IsTiny}
 
@@ -81,6 +82,14 @@ IsAllowedCorner false d a b = IsStrictlyConvex d a b
 -- the squared length
 abbrev pub norm : ℕ → PlaneVector → Quadratic
 norm d a = plane.norm (quadratic d) a
+
+-- the circle value of an edge between two counterclockwise triangles, which go on with the sides a, b and c, g
+abbrev pub circle : ℕ → PlaneVector → PlaneVector → PlaneVector → PlaneVector → Quadratic
+circle d a b c g = plane.circle (quadratic d) a b c g
+
+-- a triangle has its first vertex at (0,0), and from its second on the sides a and b; c leads from its first vertex to a point strictly inside the circle through all three
+abbrev pub IsInsideFaceCircle : ℕ → PlaneVector → PlaneVector → PlaneVector → Type 0
+IsInsideFaceCircle d a b c = IsInsideCircle (quadratic d) (IsPositive d) vector_zero (vector_neg (vector_add a b)) (vector_neg b) c
 
 -- the upper half by the signs of y and x: y > 0, or y = 0 and x > 0
 abbrev pub upper_by_signs : Ordering → Ordering → Bool

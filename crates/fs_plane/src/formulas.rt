@@ -192,7 +192,7 @@ fn cross_small(field: Field, a: V2, b: V2) -> Elem
 }
 
 // The cross product of tiny vectors, whose two products have 64 bits.
-fn cross_tiny(field: Field, a: V2, b: V2) -> Elem
+pub(crate) fn cross_tiny(field: Field, a: V2, b: V2) -> Elem
     requires left { IsTinyVector a }
     requires right { IsTinyVector b }
     ensures { result ≡ cross field.d a b }
@@ -209,4 +209,14 @@ fn dot_small(field: Field, a: V2, b: V2) -> Elem
 {
     let left = field.mul_small(a.x, b.x);
     left.add_fitting(field.mul_small(a.y, b.y))
+}
+
+// The dot product of tiny vectors, whose two products have 64 bits.
+pub(crate) fn dot_tiny(field: Field, a: V2, b: V2) -> Elem
+    requires left { IsTinyVector a }
+    requires right { IsTinyVector b }
+    ensures { result ≡ dot field.d a b }
+{
+    let left = field.mul_tiny(a.x, b.x);
+    left.add_fitting(field.mul_tiny(a.y, b.y))
 }

@@ -59,6 +59,108 @@ pub enum Site {
         crossings: u32,
         place: u32,
     },
+    /// The circle value of an edge after some flips, by the places of `circle`.
+    Circle {
+        flips: u32,
+        edge: u32,
+        place: u32,
+    },
+    /// The flip of an edge after some flips: places 1 and 2 are the vector of the new edge. Then place 2 + 18t + q is place
+    /// q of the test whether this vector is in the sector of a corner, where t is the number of the corner, from 0, in the
+    /// order round the vertex; place 11 + 18t + q is the same for the opposite vector at the edge's other end.
+    Flip {
+        flips: u32,
+        edge: u32,
+        place: u32,
+    },
+    /// The bound of the squared lengths, scaled: place 1 is the bound times the denominator, place 2 that times the
+    /// denominator once more.
+    Bound {
+        place: u32,
+    },
+    /// The first triangle of a fan: places 1 to 3 are the squared length of the half-edge, places 4 to 25 the test whether
+    /// the opposite side comes within the bound.
+    First {
+        half_edge: u32,
+        place: u32,
+    },
+    /// A word of crossed half-edges, by the number of words before it: places 1 and 2 are the corner beyond, 3 to 8 the
+    /// cross products that compare it with the word's bounds, 9 to 11 its squared length, 12 to 33 and 34 to 55 the tests
+    /// whether each of the two sides beyond comes within the bound.
+    Fan {
+        word: u32,
+        place: u32,
+    },
+    /// A vector that is kept in a list: the first of its parts that is too large, 1 and 2 of x, 3 and 4 of y.
+    Keep {
+        vector: u32,
+        place: u32,
+    },
+    /// The corner at which a ray that was found begins: place 9t + q is place q of the test whether the ray is in the
+    /// sector of a corner, where t is the number of the corner, from 0, in the order round the vertex.
+    Home {
+        ray: u32,
+        place: u32,
+    },
+    /// The length of a letter: places 1 to 3 are the cross product of the side and the direction, place 4 the sum of the
+    /// lengths up to an incoming side.
+    Letter {
+        polygon: u32,
+        side: u32,
+        place: u32,
+    },
+    /// The return vector of a letter, by its outgoing side: place 1 is x, place 2 is y.
+    Shift {
+        polygon: u32,
+        side: u32,
+        place: u32,
+    },
+    /// An event of the induction, by the number of events before it.
+    Event {
+        event: u32,
+        place: u32,
+    },
+    /// The lengths and the area of a component: places 1 to 5 are the square of the circumference, 6 to 13 the square of
+    /// the height, 14 to 20 the area; from 21 on come the letters of a component without a cylinder, five places each,
+    /// and 6018 to 6020 are its area.
+    Value {
+        component: u32,
+        place: u32,
+    },
+    /// A coordinate of a table's side, with the places of `Scale`.
+    TableScale {
+        side: u32,
+        place: u32,
+    },
+    /// The position of a table's corner plus the side there, with the places of `Close`.
+    TableClose {
+        side: u32,
+        place: u32,
+    },
+    /// The test of the two sides at a table's corner, with the places of `Corner`.
+    TableCorner {
+        side: u32,
+        place: u32,
+    },
+    /// The reflection in a table's side: places 1 to 3 are the products of the coordinates, 4 the squared length, 5 its
+    /// inverse, 6 to 9 the entries of the matrix.
+    Reflect {
+        side: u32,
+        place: u32,
+    },
+    /// A product of reflections times the reflection in a table's side: three places for each entry of the matrix, row by row.
+    Product {
+        product: u32,
+        side: u32,
+        place: u32,
+    },
+    /// A side of a copy of the table, which is a product of reflections times the table's side: places 1 to 3 are x, 4 to 6
+    /// are y.
+    Copy {
+        copy: u32,
+        side: u32,
+        place: u32,
+    },
 }
 
 impl Site {
@@ -92,6 +194,30 @@ impl Site {
     {
         let (polygon, side) = numbers(corner);
         Site::Corner {
+            polygon,
+            side,
+            place,
+        }
+    }
+
+    /// The site of the length of a side's letter, by its place.
+    pub fn measuring(corner: Corner, place: u32) -> Site
+        ensures { result ≡ Site.Letter corner.polygon corner.side place }
+    {
+        let (polygon, side) = numbers(corner);
+        Site::Letter {
+            polygon,
+            side,
+            place,
+        }
+    }
+
+    /// The site of the return vector of an outgoing side's letter, by its place.
+    pub fn returning(corner: Corner, place: u32) -> Site
+        ensures { result ≡ Site.Shift corner.polygon corner.side place }
+    {
+        let (polygon, side) = numbers(corner);
+        Site::Shift {
             polygon,
             side,
             place,

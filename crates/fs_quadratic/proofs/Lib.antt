@@ -5,6 +5,8 @@ pub mod Signs
 pub mod Parts
 pub mod Bits
 pub mod Small
+pub mod Narrow
+pub mod Sizes
 pub mod CompleteQuotients
 pub mod Excess
 pub mod RootOrder

@@ -1,13 +1,12 @@
 -- Numbers with small parts have products within the width.
-use Rattle.std.proofs.Common.{◌≡◌, ℕ, ◌+◌, ◌-◌, ◌*◌, ◌^◌, ◌<◌, ◌≤◌, ℤ, pos, negsuc, ◌+ℤ◌, ◌-ℤ◌, ◌*ℤ◌, arith, refl, sym, subst, to_z, of_z, ◌∙◌}
+use Rattle.std.proofs.Common.{ℕ, ◌+◌, ◌-◌, ◌*◌, ◌^◌, ◌<◌, ◌≤◌, ℤ, pos, negsuc, ◌+ℤ◌, ◌-ℤ◌, ◌*ℤ◌, arith, sym, subst}
 use Rattle.std.proofs.lemmas.Int.{ints, unsigned_abs-mul}
 use Rattle.std.proofs.Math.Nat.{mul-le-mul}
 use Rattle.std.specs.Prelude.{unsigned_abs}
-use Rattle.std.specs.Int.{w64}
 use Rattle.fs_quadratic.specs.declared.radicand.Field.{Field}
 use Rattle.fs_quadratic.specs.Ring.{Quadratic, rational_part, r_part, add, sub, mul}
-use Rattle.fs_quadratic.specs.Width.{InWidth, Fits, RationalPartFits, RPartFits, MulFits, IsSmall}
-use Rattle.fs_quadratic.proofs.Bits.{within_of_abs, of_bits, of_bits-is, of_bits-mul}
+use Rattle.fs_quadratic.specs.Width.{InWidth, Fits, MulFits, IsSmall, IsNarrow}
+use Rattle.fs_quadratic.proofs.Bits.{within_of_abs}
 
 -- a sum is at most as great in size as both numbers together
 pub abs_add : (y z : ℤ) → unsigned_abs (y +ℤ z) ≤ unsigned_abs y + unsigned_abs z
@@ -32,31 +31,6 @@ greatest = (2 ^ 58 - 1) * (2 ^ 58 - 1)
 
 product_small : (y z : ℤ) → unsigned_abs y < 2 ^ 58 → unsigned_abs z < 2 ^ 58 → unsigned_abs (y *ℤ z) ≤ greatest
 product_small y z h k = abs_mul y z (2 ^ 58 - 1) (2 ^ 58 - 1) (omega arith) (omega arith)
-
-small_within : (z : ℤ) → unsigned_abs z < 2 ^ 58 → InWidth z
-small_within z h = within z (2 ^ 58) (omega arith) (omega arith)
-
--- the number that the lower 64 bits of a number say
-abbrev of_lower_bits : ℤ → ℤ
-of_lower_bits z = to_z w64 (of_z w64 (of_bits z))
-
-lower_bits : (z : ℤ) → unsigned_abs z < 2 ^ 58 → to_z w64 (of_z w64 z) ≡ z
-lower_bits (pos n) h = omega (arith, ints)
-lower_bits (negsuc n) h = omega (arith, ints)
-
-of_lower_bits-is : (z : ℤ) → unsigned_abs z < 2 ^ 58 → of_lower_bits z ≡ z
-of_lower_bits-is z h = rw (of_bits-is {a = z} refl (small_within z h)) (lower_bits z h)
-
-module _ (y z : ℤ) (h : unsigned_abs y < 2 ^ 58) (k : unsigned_abs z < 2 ^ 58) where
-  pub small_product_fits : InWidth (y *ℤ z)
-  small_product_fits = within (y *ℤ z) greatest (product_small y z h k) (omega arith)
-
-  -- the product, computed from the lower 64 bits of both
-  pub of_bits-small_product : {a b : ℤ} → a ≡ of_lower_bits y → b ≡ of_lower_bits z → of_bits (of_bits a *ℤ of_bits b) ≡ y *ℤ z
-  of_bits-small_product e f = of_bits-mul
-      (of_bits-is (e ∙ of_lower_bits-is y h) (small_within y h))
-      (of_bits-is (f ∙ of_lower_bits-is z k) (small_within z k))
-      small_product_fits
 
 multiple_small : (d : ℕ) (z : ℤ) → d ≤ 999 → unsigned_abs z ≤ greatest → unsigned_abs (pos d *ℤ z) ≤ 999 * greatest
 multiple_small d z h k = abs_mul (pos d) z 999 greatest h k
@@ -85,10 +59,9 @@ small_fits d x y h s t =
       ),
     )
 
--- the same, for a field, by its parts
-pub field_fits : (field : Field) (x y : Quadratic) → IsSmall x → IsSmall y → RationalPartFits field.d x y × RPartFits x y
-unfolding MulFits
-field_fits field x y s t = small_fits field.d x y field.radicand.greatest s t
+-- a small number is narrow
+pub narrow_of_small : (x : Quadratic) → IsSmall x → IsNarrow x
+narrow_of_small x s = (omega arith, omega arith)
 
 -- ---- the sum and the difference of two products of small numbers fit
 
@@ -107,7 +80,7 @@ module _ (d : ℕ) (x y : Quadratic) (h : d ≤ 999) (s : IsSmall x) (t : IsSmal
   unfolding mul
   part_q = let sum = sum_small (x.p *ℤ y.q) (x.q *ℤ y.p) greatest greatest (product_small x.p y.q s.0 t.1) (product_small x.q y.p s.1 t.0) in omega arith
 
-abs_sub : (y z : ℤ) → unsigned_abs (y -ℤ z) ≤ unsigned_abs y + unsigned_abs z
+pub abs_sub : (y z : ℤ) → unsigned_abs (y -ℤ z) ≤ unsigned_abs y + unsigned_abs z
 abs_sub (pos m) (pos n) = omega (arith, ints)
 abs_sub (pos m) (negsuc n) = omega (arith, ints)
 abs_sub (negsuc m) (pos n) = omega (arith, ints)

@@ -16,6 +16,15 @@ step_of_call (Ok x) s n false P value t h e = absurd (false_not_true (t.1 h.0))
 step_of_call (Err x) s n true P value t h e = absurd (h (t.0 refl))
 step_of_call (Err x) s n false P value t h e = e
 
+-- a step that gives a value gives its own
+pub step_value : {A : Type 0} (n : ℕ) (test : Bool) (value x : A) → step n test value ≡ Ok x → x ≡ value
+step_value n true value x e = cc
+step_value n false value x e = absurd cc
+
+-- and it does where its numbers fit
+pub step_fits : {A : Type 0} {P : Type 0} (n : ℕ) (test : Bool) (value : A) → Decides test P → P → step n test value ≡ Ok value
+step_fits n test value t h = ap (λ passed. step n passed value) (t.1 h)
+
 -- ---- three steps in turn, the last of which tests and gives what the first two give
 
 module _ {A B C : Type 0} (before : ℕ) (x : A) (y : B) (test : A → B → Bool) (value : A → B → C) where

@@ -30,6 +30,10 @@ MulFits d x y = RationalPartFits d x y × RPartFits x y
 abbrev pub IsSmall : Quadratic → Type 0
 IsSmall x = (unsigned_abs x.p < 2 ^ 58) × (unsigned_abs x.q < 2 ^ 58)
 
+-- both parts are below 2^63 in size: they have 64 bits
+abbrev pub IsNarrow : Quadratic → Type 0
+IsNarrow x = (unsigned_abs x.p < 2 ^ 63) × (unsigned_abs x.q < 2 ^ 63)
+
 -- both parts are below 2^26 in size: a thousand times a product of two of them, and twice that, have 64 bits
 abbrev pub IsTiny : Quadratic → Type 0
 IsTiny x = (unsigned_abs x.p < 2 ^ 26) × (unsigned_abs x.q < 2 ^ 26)

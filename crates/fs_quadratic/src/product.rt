@@ -2,7 +2,7 @@ ghost use Rattle.std.specs.Prelude.{◌≡◌, ◌*ℤ◌, ◌<◌, ◌^◌, IfE
 ghost use Rattle.std.specs.Option.{SomeIff};
 ghost use Rattle.std.specs.Result.{OkIff};
 ghost use Rattle.fs_quadratic.specs.Ring.{mul, rational_part, r_part};
-ghost use Rattle.fs_quadratic.specs.Width.{InWidth, RationalPartFits, RPartFits, MulFits, IsSmall, IsTiny};
+ghost use Rattle.fs_quadratic.specs.Width.{InWidth, RationalPartFits, RPartFits, MulFits, IsSmall, IsNarrow, IsTiny};
 
 use crate::element::{Elem, Op};
 use crate::radicand::Field;
@@ -32,9 +32,19 @@ impl Field {
         requires right { IsSmall y }
         ensures { result ≡ mul self.d x y }
     {
+        self.mul_narrow(x, y)
+    }
+
+    /// The product of two numbers whose parts have 64 bits, where it is known to fit.
+    pub fn mul_narrow(self, x: Elem, y: Elem) -> Elem
+        requires left { IsNarrow x }
+        requires right { IsNarrow y }
+        requires fits { MulFits self.d x y }
+        ensures { result ≡ mul self.d x y }
+    {
         Elem::new(
-            small_product(x.p(), y.p()) + i128::from(self.d) * small_product(x.q(), y.q()),
-            small_product(x.p(), y.q()) + small_product(x.q(), y.p()),
+            narrow_product(x.p(), y.p()) + i128::from(self.d) * narrow_product(x.q(), y.q()),
+            narrow_product(x.p(), y.q()) + narrow_product(x.q(), y.p()),
         )
     }
 
@@ -60,10 +70,10 @@ fn tiny_product(a: i128, b: i128) -> i64
     a as i64 * b as i64
 }
 
-// The product of two small parts, by one multiplication of 64 bits.
-fn small_product(a: i128, b: i128) -> i128
-    requires a { unsigned_abs a < 2 ^ 58 }
-    requires b { unsigned_abs b < 2 ^ 58 }
+// The product of two parts of 64 bits, by one multiplication of 64 bits.
+fn narrow_product(a: i128, b: i128) -> i128
+    requires a { unsigned_abs a < 2 ^ 63 }
+    requires b { unsigned_abs b < 2 ^ 63 }
     ensures value { result ≡ a *ℤ b }
     ensures within { InWidth result }
 {

@@ -13,4 +13,5 @@ pub mod Sectors
 pub mod AxisSigns
 pub mod Chords
 pub mod Hinges
+pub mod Circles
 pub mod Integers

@@ -3,4 +3,5 @@ pub mod CommutativeRing
 pub mod OrderedRing
 pub mod Vector
 pub mod Direction
+pub mod Circle
 pub mod Integers

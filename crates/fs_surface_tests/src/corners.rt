@@ -49,4 +49,16 @@ fn sites_at_a_corner(rt: HostRuntime) {
         place,
     };
     assert!(rt; Site::triangle(corner, place) == triangle);
+    let measuring = Site::Letter {
+        polygon,
+        side,
+        place,
+    };
+    assert!(rt; Site::measuring(corner, place) == measuring);
+    let returning = Site::Shift {
+        polygon,
+        side,
+        place,
+    };
+    assert!(rt; Site::returning(corner, place) == returning);
 }

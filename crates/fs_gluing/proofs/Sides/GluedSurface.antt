@@ -13,11 +13,11 @@ use Rattle.fs_paths.proofs.EndUnique as paths
 use Rattle.fs_gluing.specs.Polygons.{HasSide}
 use Rattle.fs_gluing.specs.Surface.{GluedPolygons, IsTranslationSurface, IsPolygon, side_vectors}
 use Rattle.fs_gluing.specs.NextCorner.{corner_after, side_count}
-use Rattle.fs_gluing.specs.SurfaceSides.{vector_of, polygon_sides}
+use Rattle.fs_gluing.specs.SurfaceSides.{vector_of, polygon_sides, is_ahead}
 use Rattle.fs_gluing.proofs.SurfaceCalls.NextCorner.{in_polygon, has_before, has_after, after-before_corner, before-after_corner}
 use Rattle.fs_gluing.proofs.Sides.PartnerSides.{has_partner, partner-partner, partner-moved, vector-partner}
 use Rattle.fs_gluing.proofs.Sides.CornerRays.{bends_at}
-use Rattle.fs_gluing.proofs.Sides.HalfPlaneTests.{is_ahead, decides_half_planes}
+use Rattle.fs_gluing.proofs.Sides.HalfPlaneTests.{decides_half_planes}
 use Rattle.fs_gluing.proofs.Sides.SidesInTurn.{position_of, returns_after, rises_from_corner, position_after}
 
 module _ (s : GluedPolygons) (surface : IsTranslationSurface s) where

@@ -14,10 +14,7 @@ use Rattle.fs_quadratic.proofs.Signs.{sign-positive, sign-zero, positive_of_sign
 use Rattle.fs_quadratic.proofs.Laws.{quadratic_ring}
 use Rattle.fs_plane.specs.Vector.{PlaneVector, vector_neg, cross, dot, is_upper, upper_by_signs}
 use Rattle.fs_convex.specs.Turning.{DecidesHalfPlanes}
-
--- x is in the half plane of v: left of v, or along it
-abbrev pub is_ahead : ℕ → PlaneVector → PlaneVector → Bool
-is_ahead d v x = upper_by_signs (sign d (cross d v x)) (sign d (dot d v x))
+use Rattle.fs_gluing.specs.SurfaceSides.{is_ahead}
 
 module _ {d : ℕ} (radicand : IsRadicand d) where
   sound_by : (v x : PlaneVector) (c e : Ordering) → sign d (cross d v x) ≡ c → sign d (dot d v x) ≡ e → upper_by_signs c e ≡ true → InHalfPlane (quadratic d) (IsPositive d) v x

@@ -24,12 +24,12 @@ use Rattle.fs_gluing.specs.Convex.{corner_position, corners_of, corners_from, la
 use Rattle.fs_gluing.specs.Polygons.{HasSide}
 use Rattle.fs_gluing.specs.Surface.{IsPolygon, side_vectors}
 use Rattle.fs_gluing.specs.NextCorner.{side_count, length_or_0, corner_after}
-use Rattle.fs_gluing.specs.SurfaceSides.{vector_or, vector_of, polygon_sides}
+use Rattle.fs_gluing.specs.SurfaceSides.{vector_or, vector_of, polygon_sides, is_ahead}
 use Rattle.fs_gluing.proofs.Polygon.ConvexCorners.{last_side_is}
 use Rattle.fs_gluing.proofs.SurfaceCalls.NextCorner.{IsInPolygon, in_polygon, after}
 use Rattle.fs_gluing.proofs.SurfaceCalls.Positions.{next_in, last_in}
 use Rattle.fs_gluing.proofs.Sides.AllSides.{corner}
-use Rattle.fs_gluing.proofs.Sides.HalfPlaneTests.{is_ahead, is_ahead-unit, is_ahead-opposite}
+use Rattle.fs_gluing.proofs.Sides.HalfPlaneTests.{is_ahead-unit, is_ahead-opposite}
 
 -- ---- the numbers after 0, modulo n
 

@@ -1,36 +1,12 @@
-use Rattle.std.proofs.Common.{◌∙◌, sym}
-use Rattle.fs_quadratic.proofs.Small.{field_fits}
-use Rattle.fs_quadratic.proofs.Bits.{of_bits-is, of_bits-mul, of_bits-product, of_bits-add, fits-mul, fits-add, within_of_eq, within_radicand}
-use Rattle.fs_quadratic.proofs.Laws.{quadratic_eq, mul-is}
+use Rattle.fs_quadratic.proofs.Small.{narrow_of_small, small_fits}
 use Rattle.fs_quadratic.proofs.radicand.Field.mul_small.Goals as goal
 
-pub overflow_mul-from : goal.overflow_mul-from
-overflow_mul-from c =
-    let fit = field_fits c.args.self c.args.x c.args.y c.requires.left c.requires.right in
-    fits-mul (of_bits-is c.from.ensures (within_radicand c.args.self.radicand)) (of_bits-product c.small_product-2.ensures.value c.q.ensures.value c.q.ensures.within c.q-2.ensures.value c.q-2.ensures.within fit.0.1.0) fit.0.1.1
+pub mul_narrow-requires-clause-left : goal.mul_narrow-requires-clause-left
+mul_narrow-requires-clause-left c = narrow_of_small c.args.x c.requires.left
 
-pub overflow_add-small_product : goal.overflow_add-small_product
-overflow_add-small_product c =
-    let fit = field_fits c.args.self c.args.x c.args.y c.requires.left c.requires.right in
-    fits-add (of_bits-product c.small_product.ensures.value c.p.ensures.value c.p.ensures.within c.p-2.ensures.value c.p-2.ensures.within fit.0.0) (of_bits-mul (of_bits-is c.from.ensures (within_radicand c.args.self.radicand)) (of_bits-product c.small_product-2.ensures.value c.q.ensures.value c.q.ensures.within c.q-2.ensures.value c.q-2.ensures.within fit.0.1.0) fit.0.1.1) fit.0.2
+pub mul_narrow-requires-clause-right : goal.mul_narrow-requires-clause-right
+mul_narrow-requires-clause-right c = narrow_of_small c.args.y c.requires.right
 
-pub overflow_add-small_product-2 : goal.overflow_add-small_product-2
-overflow_add-small_product-2 c =
-    let fit = field_fits c.args.self c.args.x c.args.y c.requires.left c.requires.right in
-    fits-add (of_bits-product c.small_product-3.ensures.value c.p-3.ensures.value c.p-3.ensures.within c.q-3.ensures.value c.q-3.ensures.within fit.1.0) (of_bits-product c.small_product-4.ensures.value c.q-4.ensures.value c.q-4.ensures.within c.p-4.ensures.value c.p-4.ensures.within fit.1.1) fit.1.2
-
-pub new-requires-clause-p : goal.new-requires-clause-p
-new-requires-clause-p c =
-    let fit = field_fits c.args.self c.args.x c.args.y c.requires.left c.requires.right in
-    within_of_eq (of_bits-add (of_bits-product c.small_product.ensures.value c.p.ensures.value c.p.ensures.within c.p-2.ensures.value c.p-2.ensures.within fit.0.0) (of_bits-mul (of_bits-is c.from.ensures (within_radicand c.args.self.radicand)) (of_bits-product c.small_product-2.ensures.value c.q.ensures.value c.q.ensures.within c.q-2.ensures.value c.q-2.ensures.within fit.0.1.0) fit.0.1.1) fit.0.2) fit.0.2
-
-pub new-requires-clause-q : goal.new-requires-clause-q
-new-requires-clause-q c =
-    let fit = field_fits c.args.self c.args.x c.args.y c.requires.left c.requires.right in
-    within_of_eq (of_bits-add (of_bits-product c.small_product-3.ensures.value c.p-3.ensures.value c.p-3.ensures.within c.q-3.ensures.value c.q-3.ensures.within fit.1.0) (of_bits-product c.small_product-4.ensures.value c.q-4.ensures.value c.q-4.ensures.within c.p-4.ensures.value c.p-4.ensures.within fit.1.1) fit.1.2) fit.1.2
-
-pub returns : goal.returns
-returns c =
-    let fit = field_fits c.args.self c.args.x c.args.y c.requires.left c.requires.right in
-    c.new.ensures ∙ quadratic_eq (of_bits-add (of_bits-product c.small_product.ensures.value c.p.ensures.value c.p.ensures.within c.p-2.ensures.value c.p-2.ensures.within fit.0.0) (of_bits-mul (of_bits-is c.from.ensures (within_radicand c.args.self.radicand)) (of_bits-product c.small_product-2.ensures.value c.q.ensures.value c.q.ensures.within c.q-2.ensures.value c.q-2.ensures.within fit.0.1.0) fit.0.1.1) fit.0.2) (of_bits-add (of_bits-product c.small_product-3.ensures.value c.p-3.ensures.value c.p-3.ensures.within c.q-3.ensures.value c.q-3.ensures.within fit.1.0) (of_bits-product c.small_product-4.ensures.value c.q-4.ensures.value c.q-4.ensures.within c.p-4.ensures.value c.p-4.ensures.within fit.1.1) fit.1.2)
-    ∙ sym (mul-is c.args.self.d c.args.x c.args.y)
+pub mul_narrow-requires-clause-fits : goal.mul_narrow-requires-clause-fits
+mul_narrow-requires-clause-fits c =
+    small_fits c.args.self.d c.args.x c.args.y c.args.self.radicand.greatest c.requires.left c.requires.right

@@ -1,0 +1,10 @@
+pub mod Rounds
+pub mod EarCuts
+pub mod PolygonsUncut
+pub mod TriangleSides
+pub mod Names
+pub mod HingeNames
+pub mod FlippedTriangles
+pub mod FlippedConnections
+pub mod FlipSteps
+pub mod FlipFrames

@@ -1,0 +1,3 @@
+pub mod Triangles
+pub mod Flips
+pub mod Ears
