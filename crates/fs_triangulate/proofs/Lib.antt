@@ -1,0 +1,8 @@
+-- The proofs of fs_triangulate, by subject.
+pub mod FanWays
+pub mod FanPlaces
+pub mod GluedWays
+pub mod WayVectors
+pub mod FaceBases
+pub mod Added
+pub mod FirstCutLaws
