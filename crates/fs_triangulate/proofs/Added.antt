@@ -1,10 +1,9 @@
 -- Triangles that are added to a list of triangles, one after another.
-use Rattle.std.proofs.Common.{◌≡◌, ℕ, zero, suc, ◌+◌, ◌-◌, ◌<◌, ◌≤◌, Option, Some, None, List, [], ◌∷◌, ◌++◌, length, map, take, refl, sym, ap, ◌∙◌, subst, arith}
-use Rattle.std.specs.List.{flat_map, range_with_len}
+use Rattle.std.proofs.Common.{◌≡◌, ℕ, zero, suc, ◌+◌, ◌-◌, ◌<◌, ◌≤◌, List, [], ◌∷◌, ◌++◌, length, map, take, refl, sym, ap, ◌∙◌, subst, arith}
+use Rattle.std.specs.List.{range_with_len}
 use Rattle.std.proofs.lemmas.List.{append-nil, append_assoc, map-append, take_all}
 use Rattle.std.proofs.lemmas.List.Concat.{flat_map-append}
 use Rattle.std.proofs.lemmas.List.FromFn.{map-range_with_len_more}
-use Rattle.fs_plane.specs.declared.corners.Corner.{Corner}
 use Rattle.fs_plane.specs.Vector.{PlaneVector}
 use Rattle.fs_gluing.specs.declared.surfaces.Side.{Side}
 use Rattle.fs_gluing.specs.declared.triangulations.Triangles.{Triangles}
@@ -21,6 +20,10 @@ joined a b c xs ys e f = f ∙ ap (λ zs. zs ++ ys) e ∙ append_assoc a xs ys
 -- a map of all ways of joined lists
 ways_joined : {X : Type 0} (f : Way → X) (xs ys : List CornerTriangle) → map f (all_ways (xs ++ ys)) ≡ map f (all_ways xs) ++ map f (all_ways ys)
 ways_joined f xs ys = ap (map f) (flat_map-append ways_of xs ys) ∙ map-append f (all_ways xs) (all_ways ys)
+
+-- lists of three equal items are equal
+pub three_equal : {X : Type 0} (a b c x y z : X) → a ≡ x → b ≡ y → c ≡ z → a ∷ b ∷ c ∷ [] ≡ x ∷ y ∷ z ∷ []
+three_equal a b c x y z p q r = λ i. p i ∷ q i ∷ r i ∷ []
 
 module _ (s : GluedPolygons) where
   abbrev twin_of : Way → ℕ
@@ -47,6 +50,10 @@ module _ (s : GluedPolygons) where
   fan_more i t a b c p q =
       subst (λ xs. AddsTriangles s xs a c) (sym (map-range_with_len_more (fan_triangle i) 0 t t (omega arith)))
       (adds_more (map (fan_triangle i) (range_with_len 0 t)) (fan_triangle i t ∷ []) a b c p q)
+
+  -- the whole fan
+  pub fan_all : (i t n : ℕ) (a b : Triangles) → t ≡ n - 2 → AddsTriangles s (map (fan_triangle i) (range_with_len 0 t)) a b → AddsTriangles s (fan_of i n) a b
+  fan_all i t n a b e p = subst (λ m. AddsTriangles s (map (fan_triangle i) (range_with_len 0 m)) a b) e p
 
   -- a face and its three half-edges are added
   pub adds_face : (i t : ℕ) (face : List PlaneVector) (a b c d e : Triangles) → face ≡ face_of (fan_triangle i t) → b.faces ≡ a.faces ++ face ∷ [] → b.homes ≡ a.homes → b.twins ≡ a.twins

@@ -1,13 +1,12 @@
 -- The number of the first face of each polygon: one polygon more, and how large it gets.
-use Rattle.std.proofs.Common.{◌≡◌, ℕ, zero, suc, ◌+◌, ◌-◌, ◌<◌, ◌≤◌, Option, Some, None, List, [], ◌∷◌, ◌++◌, length, map, sum_by, get_or, refl, sym, ap, ◌∙◌, subst, arith}
+use Rattle.std.proofs.Common.{◌≡◌, ℕ, zero, suc, ◌+◌, ◌-◌, ◌<◌, ◌≤◌, List, [], ◌∷◌, ◌++◌, length, map, sum_by, get_or, refl, sym, ap, ◌∙◌, subst, arith}
 use Rattle.std.specs.Option.{IfSome}
 use Rattle.std.specs.List.{slice_get, range_with_len}
-use Rattle.std.proofs.lemmas.List.{get_or_read}
 use Rattle.std.proofs.lemmas.List.FromFn.{map-range_with_len_more, get_or-map-range_with_len, length-map-range_with_len}
 use Rattle.std.proofs.lemmas.List.Sums.{sum_by-cons}
 use Rattle.fs_gluing.specs.declared.surfaces.Side.{Side}
 use Rattle.fs_gluing.specs.Limits.{most_sides}
-use Rattle.fs_gluing.specs.NextCorner.{length_or_0, side_count}
+use Rattle.fs_gluing.specs.NextCorner.{side_count}
 use Rattle.fs_gluing.specs.Surface.{GluedPolygons, IsSurface}
 use Rattle.fs_triangulate.specs.Fans.{faces_before, face_bases}
 
@@ -17,11 +16,20 @@ count_of [] i n l h = absurd (omega arith)
 count_of (polygon ∷ polygons) zero n l h = h
 count_of (polygon ∷ polygons) (suc i) n l h = count_of polygons i n (omega arith) h
 
+-- no polygon is before polygon 0
+no_faces : (polygons : List (List Side)) → faces_before polygons 0 ≡ 0
+no_faces [] = refl
+no_faces (polygon ∷ polygons) = refl
+
 -- the faces of one polygon more
 pub faces_more : (polygons : List (List Side)) (k : ℕ) → k < length polygons → faces_before polygons (k + 1) ≡ faces_before polygons k + (side_count polygons k - 2)
 faces_more [] k l = absurd (omega arith)
-faces_more (polygon ∷ polygons) zero l = omega arith
-faces_more (polygon ∷ polygons) (suc k) l = let e = faces_more polygons k (omega arith) in omega arith
+faces_more (polygon ∷ polygons) zero l = let e = no_faces polygons in omega arith
+faces_more (polygon ∷ polygons) (suc k) l =
+    let e = faces_more polygons k (omega arith) in
+    let one : suc k + 1 ≡ suc (k + 1) = omega arith in
+    let more : length polygon - 2 + faces_before polygons (k + 1) ≡ length polygon - 2 + faces_before polygons k + (side_count polygons k - 2) = omega arith in
+    ap (faces_before (polygon ∷ polygons)) one ∙ more
 
 -- there are fewer faces than sides
 faces_few : (polygons : List (List Side)) (k : ℕ) → faces_before polygons k ≤ sum_by length polygons
@@ -52,8 +60,7 @@ pub record AreBasesUpTo (polygons : List (List Side)) (k : ℕ) (bases : List �
   pub faces_are : faces ≡ faces_before polygons k
 
 pub bases_none : (polygons : List (List Side)) (bases : List ℕ) → bases ≡ [] → AreBasesUpTo polygons 0 bases 0
-bases_none [] bases e = record { bases_are = e; faces_are = refl }
-bases_none (polygon ∷ polygons) bases e = record { bases_are = e; faces_are = refl }
+bases_none polygons bases e = record { bases_are = e; faces_are = sym (no_faces polygons) }
 
 pub bases_more : (polygons : List (List Side)) (k : ℕ) (bases bases' : List ℕ) (faces n : ℕ) → k < length polygons → n ≡ side_count polygons k → bases' ≡ bases ++ faces ∷ []
     → AreBasesUpTo polygons k bases faces → AreBasesUpTo polygons (k + 1) bases' (faces + (n - 2))
@@ -67,6 +74,5 @@ pub bases_long : (polygons : List (List Side)) (bases : List ℕ) (k : ℕ) → 
 bases_long polygons bases k e l = subst (λ n. k < n) (sym (ap length e ∙ length-map-range_with_len (faces_before polygons) 0 (length polygons))) l
 
 -- the number that is read
-pub base_is : (polygons : List (List Side)) (bases : List ℕ) (k base : ℕ) → bases ≡ face_bases polygons → k < length polygons → base ≡ get_or bases k base → base ≡ faces_before polygons k
-base_is polygons bases k base e l read =
-    read ∙ ap (λ bs. get_or bs k base) e ∙ get_or-map-range_with_len (faces_before polygons) 0 (length polygons) k k base l (omega arith)
+pub base_is : (polygons : List (List Side)) (bases : List ℕ) (k d : ℕ) → bases ≡ face_bases polygons → k < length polygons → get_or bases k d ≡ faces_before polygons k
+base_is polygons bases k d e l = ap (λ bs. get_or bs k d) e ∙ get_or-map-range_with_len (faces_before polygons) 0 (length polygons) k k d l (omega arith)

@@ -1,5 +1,5 @@
 -- The ways of all fans in order: which ones they are, and at which place of the list each of them is.
-use Rattle.std.proofs.Common.{◌≡◌, ℕ, zero, suc, ◌+◌, ◌-◌, ◌*◌, ◌<◌, ◌≤◌, Option, Some, List, [], ◌∷◌, ◌++◌, length, map, refl, sym, ap, ◌∙◌, subst, arith}
+use Rattle.std.proofs.Common.{◌≡◌, ℕ, zero, suc, ◌+◌, ◌-◌, ◌*◌, ◌<◌, ◌≤◌, Some, List, [], ◌∷◌, ◌++◌, length, map, refl, sym, ap, ◌∙◌, subst, arith}
 use Rattle.std.specs.List.{AllByRecursion, slice_get, range_with_len}
 use Rattle.std.proofs.lemmas.List.Concat.{flat_map-append}
 use Rattle.fs_lists.proofs.All.{All-append}
@@ -7,7 +7,7 @@ use Rattle.fs_gluing.specs.declared.surfaces.Side.{Side}
 use Rattle.fs_gluing.specs.declared.triangulations.Way.{Way}
 use Rattle.fs_gluing.specs.FirstCut.{all_ways, ways_of, fan_of, fans_from}
 use Rattle.fs_gluing.specs.NextCorner.{side_count}
-use Rattle.fs_triangulate.specs.Fans.{IsInFan, from_first, between, to_first, IsFanWay, faces_before, half_edge_of, fan_triangle}
+use Rattle.fs_triangulate.specs.Fans.{from_first, between, to_first, IsFanWay, faces_before, half_edge_of, fan_triangle}
 use Rattle.fs_triangulate.proofs.FanWays.{place_of}
 
 -- the ways of m faces of the fan of polygon i, from face s on
@@ -48,8 +48,10 @@ pub sides_of_face : (polygons : List (List Side)) (k t : ℕ) → t + 2 < side_c
 sides_of_face polygons k t l =
     let there = polygon_there polygons k (omega arith) in (
       record { there = there; fan = from_first refl (omega arith) (omega arith) },
-      (record { there = there; fan = between (omega arith) (omega arith) (omega arith) },
-      (record { there = there; fan = to_first refl (omega arith) (omega arith) }, tt)),
+      (
+        record { there = there; fan = between (omega arith) (omega arith) (omega arith) },
+        (record { there = there; fan = to_first refl (omega arith) (omega arith) }, tt),
+      ),
     )
 
 -- all ways are ways of fans

@@ -1,5 +1,5 @@
 -- The ways of a fan by numbers alone: which ones they are, and the place of each among the sides of a fan's triangles.
-use Rattle.std.proofs.Common.{◌≡◌, ◌≢◌, ◌⊎◌, ℕ, zero, suc, ◌+◌, ◌-◌, ◌*◌, ◌<◌, ◌≤◌, Option, Some, List, [], ◌∷◌, refl, sym, ap, ◌∙◌, subst, inl, inr, arith}
+use Rattle.std.proofs.Common.{◌≡◌, ◌≢◌, ℕ, ◌+◌, ◌-◌, ◌*◌, ◌<◌, ◌≤◌, Some, refl, sym, ap, ◌∙◌, inl, inr, arith}
 use Rattle.std.proofs.lemmas.Bool.{cases_eq}
 use Rattle.std.proofs.lemmas.Bool.Decides.{nat_tests}
 use Rattle.std.specs.List.{slice_get}
@@ -29,6 +29,12 @@ in_larger_fan n m w k (from_first f t l) = from_first f t (omega arith)
 in_larger_fan n m w k (between f t l) = between f t (omega arith)
 in_larger_fan n m w k (to_first t f l) = to_first t f (omega arith)
 
+-- between other corners than 0 it leads to the next one
+pub to_next : (n : ℕ) (w : Way) → IsInFan n w → w.from ≢ 0 → w.to ≢ 0 → w.to ≡ w.from + 1
+to_next n w (from_first f t l) no_from no_to = absurd (no_from f)
+to_next n w (between f t l) no_from no_to = t
+to_next n w (to_first t f l) no_from no_to = absurd (no_to t)
+
 -- ---- sides and diagonals
 
 -- the way along a side of the polygon is one of the fan
@@ -43,6 +49,7 @@ side_in_fan n w three l e = elim (cases_eq w.from 0) [
   where
     after_more : (n k : ℕ) → k + 1 < n → after n k ≡ k + 1
     after_more n k l = grind (arith, nat_tests)
+
     after_last : (n k : ℕ) → k + 1 ≡ n → after n k ≡ 0
     after_last n k e = grind (arith, nat_tests)
 

@@ -1,11 +1,12 @@
 -- The way that is glued to a way of a fan is one of a fan, too.
-use Rattle.std.proofs.Common.{◌≡◌, ◌≢◌, ◌⊎◌, ℕ, suc, ◌+◌, ◌<◌, ◌≤◌, Bool, true, false, cond, eqb, Option, Some, None, List, [], ◌∷◌, length, refl, sym, ap, ◌∙◌, subst, inl, inr, arith}
+use Rattle.std.proofs.Common.{◌≡◌, ℕ, ◌<◌, ◌≤◌, Bool, true, false, cond, eqb, Option, Some, None, List, length, refl, sym, ap, subst, arith}
 use Rattle.std.proofs.lemmas.Bool.{eqb-false}
 use Rattle.std.specs.Option.{IsSome, option_and_then}
 use Rattle.std.specs.List.{slice_get}
 use Rattle.std.proofs.lemmas.List.{length-map}
+use Rattle.std.proofs.lemmas.Option.{slice_get_within}
 use Rattle.fs_lists.proofs.All.{All-slice_get}
-use Rattle.fs_lists.proofs.Items.{some_of_inside}
+use Rattle.fs_lists.proofs.Items.{some_of_inside, item_inside}
 use Rattle.fs_plane.specs.declared.corners.Corner.{Corner}
 use Rattle.fs_gluing.specs.declared.surfaces.Side.{Side}
 use Rattle.fs_gluing.specs.declared.triangulations.Way.{Way}
@@ -14,7 +15,7 @@ use Rattle.fs_gluing.specs.NextCorner.{side_count, length_or_0, corner_after}
 use Rattle.fs_gluing.specs.Polygons.{HasSide}
 use Rattle.fs_gluing.specs.Surface.{GluedPolygons, IsPolygon, IsSurface, side_vectors}
 use Rattle.fs_gluing.specs.SurfaceSides.{partner}
-use Rattle.fs_gluing.proofs.SurfaceCalls.NextCorner.{IsInPolygon, in_polygon, count_is}
+use Rattle.fs_gluing.proofs.SurfaceCalls.NextCorner.{in_polygon, count_is}
 use Rattle.fs_gluing.proofs.Sides.PartnerSides.{has_partner}
 use Rattle.fs_triangulate.specs.Fans.{IsFanWay}
 use Rattle.fs_triangulate.proofs.FanWays.{from_inside, side_in_fan, way_back, back_in_fan}
@@ -33,13 +34,17 @@ pub has_start : (polygons : List (List Side)) (w : Way) → IsFanWay polygons w 
 has_start polygons w f = has_corner polygons (way_start w) (from_inside (side_count polygons w.polygon) w f.fan)
 
 -- a polygon has three sides or more
-pub three_sides : (s : GluedPolygons) → IsSurface s → (c : Corner) → HasSide s.polygons c → 3 ≤ side_count s.polygons c.polygon
+pub three_sides_of : (s : GluedPolygons) → IsSurface s → (i : ℕ) → i < length s.polygons → 3 ≤ side_count s.polygons i
+three_sides_of s surface i l =
+    let p = item_inside s.polygons i l in
+    let polygon = All-slice_get (λ polygon. IsPolygon s.straight s.d (side_vectors polygon)) s.polygons i p.value surface.each p.is in
+    let three = polygon.three in
+    omega (arith, length-map p.value (λ (side : Side). side.vector), three, ap length_or_0 p.is)
+
+three_sides : (s : GluedPolygons) → IsSurface s → (c : Corner) → HasSide s.polygons c → 3 ≤ side_count s.polygons c.polygon
 three_sides s surface c h =
     let there = in_polygon s.polygons c h in
-    let polygon = All-slice_get (λ polygon. IsPolygon s.straight s.d (side_vectors polygon)) s.polygons c.polygon there.polygon surface.each there.is in
-    let count = count_is s.polygons c there in
-    let three = polygon.three in
-    omega (arith, length-map there.polygon (λ (side : Side). side.vector), three, count)
+    three_sides_of s surface c.polygon (slice_get_within s.polygons c.polygon there.polygon there.is)
 
 -- the way along a side is one of a fan
 side_fan_way : (s : GluedPolygons) → IsSurface s → (c : Corner) → HasSide s.polygons c → IsFanWay s.polygons (side_way s.polygons c)
@@ -62,3 +67,7 @@ glued_fan_way s surface w f = by_test (eqb (corner_after s.polygons (way_start w
       there = f.there;
       fan = back_in_fan (side_count s.polygons w.polygon) w (eqb-false (corner_after s.polygons (way_start w)).side w.to e) f.fan;
     }
+
+-- so is what equals it
+pub twin_fan_way : (s : GluedPolygons) → IsSurface s → (w twin : Way) → IsFanWay s.polygons w → twin ≡ glued_way s.polygons w → IsFanWay s.polygons twin
+twin_fan_way s surface w twin f e = subst (IsFanWay s.polygons) (sym e) (glued_fan_way s surface w f)

@@ -1,14 +1,12 @@
 -- The half-edges of the first cut, by the ways along which they run. Only proofs and inner calls of this crate cite it; the contract of `flat` doesn't rest on it.
 use Rattle.std.specs.Prelude.{◌≡◌, ℕ, zero, suc, ◌+◌, ◌-◌, ◌*◌, ◌<◌, ◌≤◌, cond, eqb, List, [], ◌∷◌, ◌++◌, length, map}
 use Rattle.std.specs.List.{range_with_len}
-use Rattle.fs_plane.specs.Vector.{PlaneVector}
-use Rattle.fs_plane.specs.declared.corners.Corner.{Corner}
 use Rattle.fs_gluing.specs.declared.surfaces.Side.{Side}
 use Rattle.fs_gluing.specs.declared.triangulations.Triangles.{Triangles}
 use Rattle.fs_gluing.specs.declared.triangulations.Way.{Way}
 use Rattle.fs_gluing.specs.Surface.{GluedPolygons}
 use Rattle.fs_gluing.specs.NextCorner.{side_count}
-use Rattle.fs_gluing.specs.FirstCut.{CornerTriangle, all_ways, ways_of, way_vector, way_start, glued_way, fan_of, fans_from}
+use Rattle.fs_gluing.specs.FirstCut.{CornerTriangle, all_ways, ways_of, way_vector, way_start, glued_way}
 
 -- the way is a half-edge of the fan of a polygon with n sides: from corner 0 to another, along a side between two others, or back to corner 0
 pub data IsInFan (n : ℕ) (w : Way) : Type 0 where
