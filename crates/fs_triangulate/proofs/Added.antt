@@ -1,7 +1,7 @@
 -- Triangles that are added to a list of triangles, one after another.
-use Rattle.std.proofs.Common.{◌≡◌, ℕ, zero, suc, ◌+◌, ◌-◌, ◌<◌, ◌≤◌, List, [], ◌∷◌, ◌++◌, length, map, take, refl, sym, ap, ◌∙◌, subst, arith}
+use Rattle.std.proofs.Common.{◌≡◌, ℕ, zero, suc, ◌+◌, ◌-◌, ◌<◌, List, [], ◌∷◌, ◌++◌, length, map, take, sym, ap, ◌∙◌, subst, arith}
 use Rattle.std.specs.List.{range_with_len}
-use Rattle.std.proofs.lemmas.List.{append-nil, append_assoc, map-append, take_all}
+use Rattle.std.proofs.lemmas.List.{append-nil, append_assoc, map-append}
 use Rattle.std.proofs.lemmas.List.Concat.{flat_map-append}
 use Rattle.std.proofs.lemmas.List.FromFn.{map-range_with_len_more}
 use Rattle.fs_plane.specs.Vector.{PlaneVector}
@@ -32,12 +32,8 @@ module _ (s : GluedPolygons) where
   abbrev face_of : CornerTriangle → List PlaneVector
   face_of t = map (way_vector s) (ways_of t)
 
-  -- no triangles were added yet
-  pub adds_none : (a : Triangles) → AddsTriangles s [] a a
-  adds_none a = record { faces = sym (append-nil a.faces); homes = sym (append-nil a.homes); twins = sym (append-nil a.twins) }
-
   -- more triangles were added
-  pub adds_more : (xs ys : List CornerTriangle) (a b c : Triangles) → AddsTriangles s xs a b → AddsTriangles s ys b c → AddsTriangles s (xs ++ ys) a c
+  adds_more : (xs ys : List CornerTriangle) (a b c : Triangles) → AddsTriangles s xs a b → AddsTriangles s ys b c → AddsTriangles s (xs ++ ys) a c
   adds_more xs ys a b c p q = record {
     faces = joined a.faces b.faces c.faces (map face_of xs) (map face_of ys) p.faces q.faces ∙ ap (λ zs. a.faces ++ zs) (sym (map-append face_of xs ys));
     homes = joined a.homes b.homes c.homes (map way_start (all_ways xs)) (map way_start (all_ways ys)) p.homes q.homes ∙ ap (λ zs. a.homes ++ zs) (sym (ways_joined way_start xs ys));
@@ -72,10 +68,7 @@ module _ (s : GluedPolygons) where
 
   -- ---- the triangles so far
 
-  pub has_none : (a : Triangles) → a.faces ≡ [] → a.homes ≡ [] → a.twins ≡ [] → HasTriangles s [] a
-  has_none a f h t = record { faces = f; homes = h; twins = t }
-
-  pub has_more : (xs ys : List CornerTriangle) (a b : Triangles) → HasTriangles s xs a → AddsTriangles s ys a b → HasTriangles s (xs ++ ys) b
+  has_more : (xs ys : List CornerTriangle) (a b : Triangles) → HasTriangles s xs a → AddsTriangles s ys a b → HasTriangles s (xs ++ ys) b
   has_more xs ys a b p q = record {
     faces = q.faces ∙ ap (λ zs. zs ++ map face_of ys) p.faces ∙ sym (map-append face_of xs ys);
     homes = q.homes ∙ ap (λ zs. zs ++ map way_start (all_ways ys)) p.homes ∙ sym (ways_joined way_start xs ys);
@@ -94,7 +87,6 @@ module _ (s : GluedPolygons) where
       more : (i : ℕ) (polygons : List (List Side)) (k : ℕ) → k < length polygons → fans_from i (take (k + 1) polygons) ≡ fans_from i (take k polygons) ++ fan_of (i + k) (side_count polygons k)
       more i [] k l = absurd (omega arith)
       more i (polygon ∷ polygons) zero l =
-          let one : zero + 1 ≡ suc zero = refl in
           let same : i ≡ i + 0 = omega arith in
           append-nil (fan_of i (length polygon)) ∙ ap (λ j. fan_of j (length polygon)) same
       more i (polygon ∷ polygons) (suc k) l =
@@ -104,7 +96,3 @@ module _ (s : GluedPolygons) where
           ∙ ap (λ xs. fan_of i (length polygon) ++ xs) (more (i + 1) polygons k (omega arith))
           ∙ sym (append_assoc (fan_of i (length polygon)) (fans_from (i + 1) (take k polygons)) (fan_of (i + 1 + k) (side_count polygons k)))
           ∙ ap (λ j. fan_of i (length polygon) ++ fans_from (i + 1) (take k polygons) ++ fan_of j (side_count polygons k)) same
-
-  -- the fans of all polygons
-  pub fans_all : (k : ℕ) (a : Triangles) → length s.polygons ≤ k → HasTriangles s (fans_from 0 (take k s.polygons)) a → HasTriangles s (fans_from 0 s.polygons) a
-  fans_all k a l p = subst (λ polygons. HasTriangles s (fans_from 0 polygons) a) (take_all k s.polygons l) p

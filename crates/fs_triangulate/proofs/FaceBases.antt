@@ -22,7 +22,7 @@ no_faces [] = refl
 no_faces (polygon ∷ polygons) = refl
 
 -- the faces of one polygon more
-pub faces_more : (polygons : List (List Side)) (k : ℕ) → k < length polygons → faces_before polygons (k + 1) ≡ faces_before polygons k + (side_count polygons k - 2)
+faces_more : (polygons : List (List Side)) (k : ℕ) → k < length polygons → faces_before polygons (k + 1) ≡ faces_before polygons k + (side_count polygons k - 2)
 faces_more [] k l = absurd (omega arith)
 faces_more (polygon ∷ polygons) zero l = let e = no_faces polygons in omega arith
 faces_more (polygon ∷ polygons) (suc k) l =

@@ -44,7 +44,7 @@ polygon_there (polygon ∷ polygons) zero l = omega arith
 polygon_there (polygon ∷ polygons) (suc k) l = let there = polygon_there polygons k l in omega arith
 
 -- the sides of a triangle of a fan are ways of this fan
-pub sides_of_face : (polygons : List (List Side)) (k t : ℕ) → t + 2 < side_count polygons k → AllByRecursion (IsFanWay polygons) (ways_of (fan_triangle k t))
+sides_of_face : (polygons : List (List Side)) (k t : ℕ) → t + 2 < side_count polygons k → AllByRecursion (IsFanWay polygons) (ways_of (fan_triangle k t))
 sides_of_face polygons k t l =
     let there = polygon_there polygons k (omega arith) in (
       record { there = there; fan = from_first refl (omega arith) (omega arith) },

@@ -9,19 +9,14 @@ use Rattle.fs_gluing.proofs.SurfaceCalls.NextCorner.{after}
 use Rattle.fs_triangulate.specs.Fans.{IsInFan, from_first, between, to_first, half_edge_along, fan_triangle}
 
 -- ways with the same corners are equal
-pub way_eq : (v w : Way) → v.polygon ≡ w.polygon → v.from ≡ w.from → v.to ≡ w.to → v ≡ w
+way_eq : (v w : Way) → v.polygon ≡ w.polygon → v.from ≡ w.from → v.to ≡ w.to → v ≡ w
 way_eq v w p f t = λ i. record { polygon = p i; from = f i; to = t i }
 
--- a way of the fan begins and ends at corners of the polygon
+-- a way of the fan begins at a corner of the polygon
 pub from_inside : (n : ℕ) (w : Way) → IsInFan n w → w.from < n
 from_inside n w (from_first f t l) = omega arith
 from_inside n w (between f t l) = omega arith
 from_inside n w (to_first t f l) = omega arith
-
-pub to_inside : (n : ℕ) (w : Way) → IsInFan n w → w.to < n
-to_inside n w (from_first f t l) = omega arith
-to_inside n w (between f t l) = omega arith
-to_inside n w (to_first t f l) = omega arith
 
 -- a way of a fan is one of each larger fan
 pub in_larger_fan : (n m : ℕ) (w : Way) → n ≤ m → IsInFan n w → IsInFan m w

@@ -22,7 +22,7 @@ use Rattle.fs_triangulate.proofs.FanWays.{from_inside, side_in_fan, way_back, ba
 use Rattle.fs_triangulate.proofs.FanPlaces.{polygon_there}
 
 -- a corner below the number of sides exists
-pub has_corner : (polygons : List (List Side)) (c : Corner) → c.side < side_count polygons c.polygon → HasSide polygons c
+has_corner : (polygons : List (List Side)) (c : Corner) → c.side < side_count polygons c.polygon → HasSide polygons c
 has_corner polygons c l = by_polygon (slice_get polygons c.polygon) l
   where
     by_polygon : (o : Option (List Side)) → c.side < length_or_0 o → IsSome (option_and_then (λ polygon. slice_get polygon c.side) o)
