@@ -17,12 +17,12 @@ count_of (polygon ∷ polygons) zero n l h = h
 count_of (polygon ∷ polygons) (suc i) n l h = count_of polygons i n (omega arith) h
 
 -- no polygon is before polygon 0
-no_faces : (polygons : List (List Side)) → faces_before polygons 0 ≡ 0
+pub no_faces : (polygons : List (List Side)) → faces_before polygons 0 ≡ 0
 no_faces [] = refl
 no_faces (polygon ∷ polygons) = refl
 
 -- the faces of one polygon more
-faces_more : (polygons : List (List Side)) (k : ℕ) → k < length polygons → faces_before polygons (k + 1) ≡ faces_before polygons k + (side_count polygons k - 2)
+pub faces_more : (polygons : List (List Side)) (k : ℕ) → k < length polygons → faces_before polygons (k + 1) ≡ faces_before polygons k + (side_count polygons k - 2)
 faces_more [] k l = absurd (omega arith)
 faces_more (polygon ∷ polygons) zero l = let e = no_faces polygons in omega arith
 faces_more (polygon ∷ polygons) (suc k) l =

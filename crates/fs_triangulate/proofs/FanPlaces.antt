@@ -11,11 +11,11 @@ use Rattle.fs_triangulate.specs.Fans.{from_first, between, to_first, IsFanWay, f
 use Rattle.fs_triangulate.proofs.FanWays.{place_of}
 
 -- the ways of m faces of the fan of polygon i, from face s on
-abbrev ways_between : ℕ → ℕ → ℕ → List Way
+abbrev pub ways_between : ℕ → ℕ → ℕ → List Way
 ways_between i s m = all_ways (map (fan_triangle i) (range_with_len s m))
 
 -- the ways of all fans are those of the first and then those of the others
-fans_split : (i : ℕ) (polygon : List Side) (polygons : List (List Side))
+pub fans_split : (i : ℕ) (polygon : List Side) (polygons : List (List Side))
     → all_ways (fans_from i (polygon ∷ polygons)) ≡ ways_between i 0 (length polygon - 2) ++ all_ways (fans_from (i + 1) polygons)
 fans_split i polygon polygons = flat_map-append ways_of (fan_of i (length polygon)) (fans_from (i + 1) polygons)
 
@@ -91,7 +91,7 @@ after_fan i s (suc m) rest h =
     ap (slice_get (ways_between i s (suc m) ++ rest)) here ∙ after_fan i (s + 1) m rest h
 
 -- face t of polygon k has the three places after those of all faces before it
-at_face_of : (i : ℕ) (polygons : List (List Side)) (k t j : ℕ) → t + 2 < side_count polygons k → j < 3
+pub at_face_of : (i : ℕ) (polygons : List (List Side)) (k t j : ℕ) → t + 2 < side_count polygons k → j < 3
     → slice_get (all_ways (fans_from i polygons)) (3 * (faces_before polygons k + t) + j) ≡ slice_get (ways_of (fan_triangle (i + k) t)) j
 at_face_of i [] k t j l m = absurd (omega arith)
 at_face_of i (polygon ∷ polygons) zero t j l m =

@@ -13,7 +13,7 @@ use Rattle.fs_gluing.specs.declared.triangulations.Way.{Way}
 use Rattle.fs_gluing.specs.FirstCut.{way_start, side_way, glued_way}
 use Rattle.fs_gluing.specs.NextCorner.{side_count, length_or_0, corner_after}
 use Rattle.fs_gluing.specs.Polygons.{HasSide}
-use Rattle.fs_gluing.specs.Surface.{GluedPolygons, IsPolygon, IsSurface, side_vectors}
+use Rattle.fs_gluing.specs.Surface.{GluedPolygons, IsPolygon, IsTranslationSurface, IsSurface, side_vectors}
 use Rattle.fs_gluing.specs.SurfaceSides.{partner}
 use Rattle.fs_gluing.proofs.SurfaceCalls.NextCorner.{in_polygon, count_is}
 use Rattle.fs_gluing.proofs.Sides.PartnerSides.{has_partner}
@@ -22,7 +22,7 @@ use Rattle.fs_triangulate.proofs.FanWays.{from_inside, side_in_fan, way_back, ba
 use Rattle.fs_triangulate.proofs.FanPlaces.{polygon_there}
 
 -- a corner below the number of sides exists
-has_corner : (polygons : List (List Side)) (c : Corner) → c.side < side_count polygons c.polygon → HasSide polygons c
+pub has_corner : (polygons : List (List Side)) (c : Corner) → c.side < side_count polygons c.polygon → HasSide polygons c
 has_corner polygons c l = by_polygon (slice_get polygons c.polygon) l
   where
     by_polygon : (o : Option (List Side)) → c.side < length_or_0 o → IsSome (option_and_then (λ polygon. slice_get polygon c.side) o)
@@ -34,7 +34,7 @@ pub has_start : (polygons : List (List Side)) (w : Way) → IsFanWay polygons w 
 has_start polygons w f = has_corner polygons (way_start w) (from_inside (side_count polygons w.polygon) w f.fan)
 
 -- a polygon has three sides or more
-pub three_sides_of : (s : GluedPolygons) → IsSurface s → (i : ℕ) → i < length s.polygons → 3 ≤ side_count s.polygons i
+pub three_sides_of : (s : GluedPolygons) → IsTranslationSurface s → (i : ℕ) → i < length s.polygons → 3 ≤ side_count s.polygons i
 three_sides_of s surface i l =
     let p = item_inside s.polygons i l in
     let polygon = All-slice_get (λ polygon. IsPolygon s.straight s.d (side_vectors polygon)) s.polygons i p.value surface.each p.is in
@@ -44,7 +44,7 @@ three_sides_of s surface i l =
 three_sides : (s : GluedPolygons) → IsSurface s → (c : Corner) → HasSide s.polygons c → 3 ≤ side_count s.polygons c.polygon
 three_sides s surface c h =
     let there = in_polygon s.polygons c h in
-    three_sides_of s surface c.polygon (slice_get_within s.polygons c.polygon there.polygon there.is)
+    three_sides_of s surface.surface c.polygon (slice_get_within s.polygons c.polygon there.polygon there.is)
 
 -- the way along a side is one of a fan
 side_fan_way : (s : GluedPolygons) → IsSurface s → (c : Corner) → HasSide s.polygons c → IsFanWay s.polygons (side_way s.polygons c)

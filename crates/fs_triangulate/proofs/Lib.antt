@@ -6,3 +6,11 @@ pub mod WayVectors
 pub mod FaceBases
 pub mod Added
 pub mod FirstCutLaws
+pub mod FaceNumbers
+pub mod FaceCounts
+pub mod StrictPolygons
+pub mod SideNumbers
+pub mod FanHalfEdges
+pub mod FanTriangulation
+pub mod FanEars
+pub mod FanCuts

@@ -4,6 +4,7 @@ ghost use Rattle.std.specs.Prelude.{◌≡◌, ◌+◌, ◌<◌, ◌≤◌, ◌�
 ghost use Rattle.fs_gluing.specs.Limits.{most_sides};
 ghost use Rattle.fs_gluing.specs.NextCorner.{side_count};
 ghost use Rattle.fs_gluing.specs.Surface.{IsSurface};
+ghost use Rattle.fs_gluing.specs.Triangulation.{IsTriangulation, IsCutFrom, triangulation_of};
 ghost use Rattle.fs_gluing.specs.FirstCut.{IsFirstCut, way_vector, glued_way, fan_of, fans_from};
 ghost use Rattle.fs_triangulate.specs.Fans.{IsInFan, IsFanWay, HasTriangles, half_edge_along, face_bases, fan_triangle, AddsTriangles, AddsHalfEdge};
 
@@ -22,6 +23,9 @@ use std::alloc::{AllocError, Global};
 pub fn fan_cut(alloc: Global, surface: &Surface) -> Result<Triangles, NoMemory>
     requires strict { surface.now.straight ≡ false }
     ensures first_cut { IfOk result (λ triangles. IsFirstCut surface.now triangles) }
+    ensures triangulation { IfOk result (λ triangles. IsTriangulation surface.now.d (triangulation_of triangles)) }
+    // A list of cuts leads from the surface to its faces.
+    ensures cut { IfOk result (λ triangles. IsCutFrom surface.now (triangulation_of triangles)) }
 {
     // A look at the field makes the invariant of the surface known here.
     let _ = surface.field();

@@ -36,7 +36,8 @@ last_is polygon side e =
     ∙ ap (λ n. unwrap_or (slice_get (side_vectors polygon) (n - 1)) vector_zero) (length-map polygon (λ (s : Side). s.vector))
     ∙ ap (λ o. unwrap_or o vector_zero) (vector_at polygon (length polygon - 1) side e)
 
-corner_in : (P : CornerSides → Type 0) (polygon : List Side) (j : ℕ) (b a : Side) → AllByRecursion P (corners_of (side_vectors polygon)) → slice_get polygon (before (length polygon) j) ≡ Some b → slice_get polygon j ≡ Some a
+-- what holds of all corners of a polygon holds of the one between these two sides
+pub corner_in : (P : CornerSides → Type 0) (polygon : List Side) (j : ℕ) (b a : Side) → AllByRecursion P (corners_of (side_vectors polygon)) → slice_get polygon (before (length polygon) j) ≡ Some b → slice_get polygon j ≡ Some a
     → P (record { before = b.vector; after = a.vector })
 corner_in P polygon zero b a all e f =
     corner_at P (last_side (side_vectors polygon)) (side_vectors polygon) 0 b.vector a.vector all (vector_at polygon 0 a f)

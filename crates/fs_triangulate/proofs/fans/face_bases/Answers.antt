@@ -9,7 +9,7 @@ loop-i-init c = bases_none c.args.surface.now.polygons c.new-bases.result.items 
 
 pub overflow_sub-faces : goal.overflow_sub-faces
 overflow_sub-faces c =
-    let three = three_sides_of c.args.surface.now c.requires.surface c.loop-i.i (omega arith) in
+    let three = three_sides_of c.args.surface.now c.requires.surface.surface c.loop-i.i (omega arith) in
     let count = count_of c.args.surface.now.polygons c.loop-i.i c.sides.result (omega arith) c.sides.ensures in
     omega (arith, three, count)
 

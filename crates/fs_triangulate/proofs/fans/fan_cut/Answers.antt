@@ -1,6 +1,17 @@
--- The triangles of all fans are the first cut.
+-- The triangles of all fans are the first cut; they are a triangulation, and a list of cuts leads to them.
 use Rattle.fs_triangulate.proofs.FirstCutLaws.{first_cut_of_fans}
+use Rattle.fs_triangulate.proofs.FanTriangulation.{fan_is_triangulation}
+use Rattle.fs_triangulate.proofs.FanCuts.{fan_is_cut}
 use Rattle.fs_triangulate.proofs.fans.fan_cut.Goals as goal
 
 pub returns : goal.returns
-returns c = record { first_cut = first_cut_of_fans c.args.surface.now c.in_ok-cut_polygons.field-0 c.field.ensures.surface c.in_ok-cut_polygons.ensures }
+returns c =
+    let s = c.args.surface.now in
+    let surface = c.field.ensures.surface in
+    let triangles = c.in_ok-cut_polygons.field-0 in
+    let fans = c.in_ok-cut_polygons.ensures in
+    record {
+      first_cut = first_cut_of_fans s triangles surface fans;
+      triangulation = fan_is_triangulation s surface.surface triangles fans c.requires.strict surface.sides;
+      cut = fan_is_cut s surface.surface triangles fans c.requires.strict;
+    }
