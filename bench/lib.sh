@@ -62,3 +62,19 @@ least_of_three() {
         }
         END { for (key in least) print key, least[key], result[key] }' | sort
 }
+
+# Of the lines of least_of_three, with the keys 'proved NAME' and 'plain NAME', prints for each name the seconds of
+# both, and their ratio; it stops where the results of both differ.
+compared() {
+    awk '{ least[$1, $2] = $3; result[$1, $2] = $4; names[$2] }
+        END {
+            for (name in names) {
+                if (result["proved", name] != result["plain", name]) {
+                    print "the results of " name " differ" >"/dev/stderr"
+                    exit 1
+                }
+                proved = least["proved", name] / 1e9; plain = least["plain", name] / 1e9
+                printf "%s: proved %.2f s, plain %.2f s, ratio %.2f\n", name, proved, plain, proved / plain
+            }
+        }' | sort
+}

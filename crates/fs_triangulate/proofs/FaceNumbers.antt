@@ -1,10 +1,7 @@
 -- Half-edges by their numbers: side r of face f has the number 3·f + r.
-use Rattle.std.proofs.Common.{◌≡◌, ℕ, zero, suc, ◌+◌, ◌-◌, ◌*◌, ◌%◌, ◌<◌, cond, eqb, refl, sym, ap, ◌∙◌, subst, arith}
-use Rattle.std.proofs.Math.Nat.{mul-add-mod_self_left, div-add-mod}
-use Rattle.std.proofs.lemmas.Bool.Decides.{nat_tests}
+use Rattle.std.proofs.Common.{◌≡◌, ℕ, zero, suc, ◌+◌, ◌-◌, ◌*◌, cond, eqb, refl, ap, ◌∙◌, arith}
+use Rattle.std.proofs.Math.Nat.{mul-add-mod_self_left}
 use Rattle.fs_gluing.specs.Triangulation.{next_in_face, prev_in_face}
-
-
 
 pub next_first : (f : ℕ) → next_in_face (3 * f + 0) ≡ 3 * f + 1
 next_first f = ap (λ r. cond (eqb r 2) (3 * f + 0 - 2) (3 * f + 0 + 1)) (mul-add-mod_self_left 3 f 0) ∙ (let e : 3 * f + 0 + 1 ≡ 3 * f + 1 = omega arith in e)

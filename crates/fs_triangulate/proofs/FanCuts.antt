@@ -1,7 +1,7 @@
 -- A list of cuts leads from a surface without straight corners to the faces of its first cut.
-use Rattle.std.proofs.Common.{◌≡◌, ◌⊎◌, ℕ, zero, suc, ◌+◌, ◌-◌, ◌*◌, ◌<◌, ◌≤◌, Bool, true, false, eqb, List, [], ◌∷◌, ◌++◌, length, map, refl, sym, ap, ◌∙◌, subst, inl, inr, arith}
+use Rattle.std.proofs.Common.{◌≡◌, ◌⊎◌, ℕ, zero, suc, ◌+◌, ◌-◌, ◌*◌, ◌<◌, ◌≤◌, false, eqb, List, [], ◌∷◌, ◌++◌, length, map, refl, sym, ap, ◌∙◌, subst, inl, inr, arith}
 use Rattle.std.specs.Prelude.{slice_index_or}
-use Rattle.std.specs.List.{AllByRecursion, range_with_len}
+use Rattle.std.specs.List.{range_with_len}
 use Rattle.std.proofs.lemmas.Bool.{eqb-true, eq-eqb}
 use Rattle.std.proofs.lemmas.Option.{get_or_from_slice_get}
 use Rattle.fs_lists.specs.Members.{IsIn, IsDistinct}
@@ -21,12 +21,11 @@ use Rattle.fs_cuts.specs.Renumberings.{IsRenumbering}
 use Rattle.fs_triangles.specs.Ears.{Ear, AreEars}
 use Rattle.fs_triangles.proofs.EarCuts.{IsFaceOf, half_edges_of}
 use Rattle.fs_triangles.proofs.PolygonsUncut.{CutPolygon, IsCutPolygon, AreUncut, all_half_edges, polygons_joined}
-use Rattle.fs_triangles.proofs.Rounds.{Round}
 use Rattle.fs_gluing.specs.declared.surfaces.Side.{Side}
 use Rattle.fs_gluing.specs.declared.triangulations.Triangles.{Triangles}
 use Rattle.fs_gluing.specs.Polygons.{HasSide}
 use Rattle.fs_gluing.specs.Surface.{GluedPolygons, IsTranslationSurface}
-use Rattle.fs_gluing.specs.SurfaceSides.{vector_of, partner, polygon_sides, is_ahead}
+use Rattle.fs_gluing.specs.SurfaceSides.{vector_of, polygon_sides, is_ahead}
 use Rattle.fs_gluing.specs.FirstCut.{fans_from, position_in}
 use Rattle.fs_gluing.specs.NextCorner.{side_count, corner_after}
 use Rattle.fs_gluing.specs.Triangulation.{Triangulation, IsCutFrom, triangulation_of, edge_vector, face_sides, next_in_face}

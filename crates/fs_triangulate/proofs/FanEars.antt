@@ -1,5 +1,5 @@
 -- A polygon that is cut along its diagonals from one corner: its triangles are its ears, cut off from the first one on. By any names of half-edges.
-use Rattle.std.proofs.Common.{◌≡◌, ◌⊎◌, ℕ, zero, suc, ◌+◌, ◌-◌, ◌*◌, ◌<◌, ◌≤◌, List, [], ◌∷◌, ◌++◌, map, refl, sym, ap, ◌∙◌, subst, inl, inr, arith, append-nil}
+use Rattle.std.proofs.Common.{◌≡◌, ◌⊎◌, ℕ, zero, suc, ◌+◌, ◌-◌, ◌<◌, ◌≤◌, List, [], ◌∷◌, map, sym, ap, ◌∙◌, subst, inl, inr, arith, append-nil}
 use Rattle.std.specs.List.{range_with_len, AllByRecursion}
 use Rattle.fs_ring.specs.Operations.{Operations}
 use Rattle.fs_ring.specs.Vector.{add_vector, cross}
@@ -63,11 +63,13 @@ module _ {A : Type 0} (R : Operations A) (IsPositive : A → Type 0) {X : Type 0
   of_leads P a zero z h = let e : a ≡ a + zero = omega arith in ((λ j l k. absurd (omega arith)), subst (λ j. P (side j) z) e h)
   of_leads P a (suc m) z h =
       let rest = of_leads P (a + 1) m z h.1 in
-      let e : a + 1 + m ≡ a + suc m = omega arith in
-      ((λ j l k. elim (here_or_after j l) [
-        | inl same ↦ subst (λ i. P (side i) (side (i + 1))) same h.0
-        | inr more ↦ rest.0 j more (omega arith)
-      ]), subst (λ j. P (side j) z) e rest.1)
+      let e : a + 1 + m ≡ a + suc m = omega arith in (
+        (λ j l k. elim (here_or_after j l) [
+          | inl same ↦ subst (λ i. P (side i) (side (i + 1))) same h.0
+          | inr more ↦ rest.0 j more (omega arith)
+        ]),
+        subst (λ j. P (side j) z) e rest.1,
+      )
     where
       here_or_after : (j : ℕ) → a ≤ j → (a ≡ j) ⊎ (a + 1 ≤ j)
       here_or_after j l = grind arith

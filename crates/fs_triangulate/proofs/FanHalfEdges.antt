@@ -1,14 +1,10 @@
 -- The half-edges of the first cut: their vectors, twins and homes, and which of them run along sides.
-use Rattle.std.proofs.Common.{◌≡◌, ◌≢◌, ◌⊎◌, ℕ, zero, suc, ◌+◌, ◌-◌, ◌*◌, ◌<◌, ◌≤◌, Bool, true, false, cond, eqb, Option, Some, None, List, [], ◌∷◌, ◌++◌, length, map, refl, sym, ap, ◌∙◌, subst, inl, inr, arith}
-use Rattle.std.specs.Prelude.{slice_index_or}
-use Rattle.std.specs.List.{slice_get, range_with_len, flat_map}
+use Rattle.std.proofs.Common.{◌≡◌, ◌≢◌, ◌⊎◌, ℕ, zero, suc, ◌+◌, ◌-◌, ◌*◌, ◌<◌, ◌≤◌, cond, Some, List, [], ◌∷◌, length, map, refl, sym, ap, ◌∙◌, subst, inl, inr, arith}
+use Rattle.std.specs.List.{slice_get, flat_map}
 use Rattle.std.specs.Option.{option_map}
-use Rattle.std.proofs.lemmas.Bool.{eq-eqb, eqb-false, ne_eqb}
-use Rattle.std.proofs.lemmas.Bool.Decides.{nat_tests}
+use Rattle.std.proofs.lemmas.Bool.{eq-eqb, ne_eqb}
 use Rattle.std.proofs.lemmas.List.{length-map}
 use Rattle.std.proofs.lemmas.Option.{slice_get-map, slice_get_within, get_or_from_slice_get}
-use Rattle.fs_lists.proofs.All.{All-slice_get}
-use Rattle.fs_lists.proofs.Items.{item_inside}
 use Rattle.fs_ring.specs.Vector.{add_vector, sub_vector}
 use Rattle.fs_ring.proofs.Solver.{expressions as E}
 use Rattle.fs_ring.proofs.PlaneSolver.{vector_identity, ◌≐ᵥ◌}
@@ -20,10 +16,10 @@ use Rattle.fs_gluing.specs.declared.surfaces.Side.{Side}
 use Rattle.fs_gluing.specs.declared.triangulations.Way.{Way}
 use Rattle.fs_gluing.specs.declared.triangulations.Triangles.{Triangles}
 use Rattle.fs_gluing.specs.Polygons.{HasSide}
-use Rattle.fs_gluing.specs.Surface.{GluedPolygons, IsTranslationSurface, IsPolygon, side_vectors}
-use Rattle.fs_gluing.specs.SurfaceSides.{vector_of, partner, polygon_sides}
-use Rattle.fs_gluing.specs.FirstCut.{CornerTriangle, all_ways, ways_of, fan_of, fans_from, way_vector, way_start, glued_way, side_way, position_in}
-use Rattle.fs_gluing.specs.NextCorner.{side_count, length_or_0, corner_after}
+use Rattle.fs_gluing.specs.Surface.{GluedPolygons, IsTranslationSurface}
+use Rattle.fs_gluing.specs.SurfaceSides.{vector_of, partner}
+use Rattle.fs_gluing.specs.FirstCut.{CornerTriangle, all_ways, ways_of, fans_from, way_vector, way_start, glued_way, side_way, position_in}
+use Rattle.fs_gluing.specs.NextCorner.{side_count, corner_after}
 use Rattle.fs_gluing.specs.Triangulation.{Triangulation, triangulation_of, edge_vector, edge_twin}
 use Rattle.fs_gluing.proofs.SurfaceCalls.NextCorner.{in_polygon, count_is}
 use Rattle.fs_gluing.proofs.Sides.AllSides.{corner}
@@ -32,7 +28,7 @@ use Rattle.fs_triangulate.specs.Fans.{HasTriangles, faces_before, half_edge_of, 
 use Rattle.fs_triangulate.proofs.GluedWays.{has_corner, three_sides_of}
 use Rattle.fs_triangulate.proofs.SideNumbers.{half_edge, half_first, half_between, half_last, side_cases, after_is-next, after_is-first, along_from_first, along_to_first}
 use Rattle.fs_triangulate.proofs.FaceCounts.{way_of_face, length-all_ways, all_faces, triangle_of}
-use Rattle.fs_triangulate.proofs.StrictPolygons.{corner_after-next, corner_after-last, position_in_is, position_next}
+use Rattle.fs_triangulate.proofs.StrictPolygons.{corner_after-next, position_in_is, position_next}
 use Rattle.fs_triangulate.proofs.FaceNumbers.{side_of_face, is_first, is_second, is_third}
 
 -- ---- the lists of the triangles

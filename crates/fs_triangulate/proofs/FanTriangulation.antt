@@ -1,6 +1,6 @@
 -- The first cut of a surface without straight corners is a triangulation.
-use Rattle.std.proofs.Common.{◌≡◌, ◌⊎◌, ℕ, zero, suc, ◌+◌, ◌-◌, ◌*◌, ◌<◌, ◌≤◌, Bool, true, false, List, [], ◌∷◌, length, sum_by, refl, sym, ap, ◌∙◌, subst, inl, inr, arith}
-use Rattle.std.specs.Prelude.{IsTrue, ltb, slice_index_or, Some}
+use Rattle.std.proofs.Common.{◌≡◌, ℕ, zero, suc, ◌+◌, ◌*◌, ◌<◌, ◌≤◌, Bool, false, List, [], ◌∷◌, length, sum_by, refl, sym, ap, ◌∙◌, subst, inl, inr, arith}
+use Rattle.std.specs.Prelude.{IsTrue, slice_index_or, Some}
 use Rattle.std.specs.List.{slice_get}
 use Rattle.std.specs.Option.{IsSome}
 use Rattle.std.proofs.lemmas.Bool.{lt-ltb, ltb-true}
@@ -16,14 +16,14 @@ use Rattle.fs_quadratic.proofs.Laws.{field_order}
 use Rattle.fs_plane.specs.declared.corners.Corner.{Corner}
 use Rattle.fs_plane.specs.Vector.{PlaneVector}
 use Rattle.fs_paths.specs.SideGluing.{SideGluing, IsSide, AreGluedPolygons}
-use Rattle.fs_triangles.specs.Triangles.{AreTriangles, IsConnectedFrom}
+use Rattle.fs_triangles.specs.Triangles.{AreTriangles}
 use Rattle.fs_triangles.proofs.TriangleSides.{counterclockwise_next, closed_next, glued_triangles}
 use Rattle.fs_gluing.specs.declared.surfaces.Side.{Side}
 use Rattle.fs_gluing.specs.declared.triangulations.Triangles.{Triangles}
-use Rattle.fs_gluing.specs.Limits.{most_sides, most_faces}
+use Rattle.fs_gluing.specs.Limits.{most_sides}
 use Rattle.fs_gluing.specs.Polygons.{HasSide}
-use Rattle.fs_gluing.specs.Surface.{GluedPolygons, IsTranslationSurface, IsSurface, AreNeighbours}
-use Rattle.fs_gluing.specs.SurfaceSides.{vector_of, partner, partner_or, is_ahead}
+use Rattle.fs_gluing.specs.Surface.{GluedPolygons, IsTranslationSurface, AreNeighbours}
+use Rattle.fs_gluing.specs.SurfaceSides.{partner, partner_or, is_ahead}
 use Rattle.fs_gluing.specs.FirstCut.{fans_from, position_in}
 use Rattle.fs_gluing.specs.NextCorner.{side_count}
 use Rattle.fs_gluing.specs.Triangulation.{Triangulation, IsTriangulation, triangulation_of, edge_vector, edge_twin, face_sides, next_in_face, prev_in_face}
@@ -114,16 +114,16 @@ module _ (s : GluedPolygons) (surface : IsTranslationSurface s) (triangles : Tri
 
   face_leads : (f : ℕ) → f < all_faces polygons → LeadsOn (3 * f + 0) (3 * f + 1) × LeadsOn (3 * f + 1) (3 * f + 2) × LeadsOn (3 * f + 2) (3 * f + 0)
   face_leads = by_triangle (λ f. LeadsOn (3 * f + 0) (3 * f + 1) × LeadsOn (3 * f + 1) (3 * f + 2) × LeadsOn (3 * f + 2) (3 * f + 0)) (λ i t there l.
-    let one = fan.first_runs s triangles cut i t (omega arith) in
-    let two = fan.second_runs s triangles cut i t (omega arith) in
-    let three = fan.third_runs s triangles cut i t (omega arith) in
-    let from_one = start_is _ _ one.home in
-    let from_two = start_is _ _ two.home in
-    let from_three = start_is _ _ three.home in (
-      one.vector ∙ (λ k. sub_vector (quadratic s.d) (sym from_two k) (sym from_one k)),
-      two.vector ∙ (λ k. sub_vector (quadratic s.d) (sym from_three k) (sym from_two k)),
-      three.vector ∙ (λ k. sub_vector (quadratic s.d) (sym from_one k) (sym from_three k)),
-    ))
+      let one = fan.first_runs s triangles cut i t (omega arith) in
+      let two = fan.second_runs s triangles cut i t (omega arith) in
+      let three = fan.third_runs s triangles cut i t (omega arith) in
+      let from_one = start_is _ _ one.home in
+      let from_two = start_is _ _ two.home in
+      let from_three = start_is _ _ three.home in (
+        one.vector ∙ (λ k. sub_vector (quadratic s.d) (sym from_two k) (sym from_one k)),
+        two.vector ∙ (λ k. sub_vector (quadratic s.d) (sym from_three k) (sym from_two k)),
+        three.vector ∙ (λ k. sub_vector (quadratic s.d) (sym from_one k) (sym from_three k)),
+      ))
 
   leads_on : (h : ℕ) → h < 3 * all_faces polygons → LeadsOn h (next_in_face h) × LeadsOn (next_in_face h) (next_in_face (next_in_face h)) × LeadsOn (next_in_face (next_in_face h)) h
   leads_on = by_face (λ a b c. LeadsOn a b × LeadsOn b c × LeadsOn c a) (all_faces polygons) (λ a b c p. (p.1, p.2, p.0)) face_leads
@@ -146,11 +146,11 @@ module _ (s : GluedPolygons) (surface : IsTranslationSurface s) (triangles : Tri
   module _ (strict : s.straight ≡ false) where
     pub face_left : (f : ℕ) → f < all_faces polygons → IsPositive s.d (cross (quadratic s.d) (edge_vector T (3 * f + 0)) (edge_vector T (3 * f + 1)))
     face_left = by_triangle (λ f. IsPositive s.d (cross (quadratic s.d) (edge_vector T (3 * f + 0)) (edge_vector T (3 * f + 1)))) (λ i t there l.
-      let one = (fan.first_runs s triangles cut i t (omega arith)).vector in
-      let two = (fan.second_runs s triangles cut i t (omega arith)).vector in
-      subst (IsPositive s.d) (sym ((λ k. cross (quadratic s.d) (one k) (two k))
-      ∙ (λ k. cross (quadratic s.d) (sub_vector (quadratic s.d) (position_in_is s i (t + 1) k) (position_in_is s i 0 k)) (sub_vector (quadratic s.d) (position_in_is s i (t + 2) k) (position_in_is s i (t + 1) k)))))
-      (fan_left s surface strict i t l))
+        let one = (fan.first_runs s triangles cut i t (omega arith)).vector in
+        let two = (fan.second_runs s triangles cut i t (omega arith)).vector in
+        subst (IsPositive s.d) (sym ((λ k. cross (quadratic s.d) (one k) (two k))
+        ∙ (λ k. cross (quadratic s.d) (sub_vector (quadratic s.d) (position_in_is s i (t + 1) k) (position_in_is s i 0 k)) (sub_vector (quadratic s.d) (position_in_is s i (t + 2) k) (position_in_is s i (t + 1) k)))))
+        (fan_left s surface strict i t l))
 
     abbrev Left : ℕ → ℕ → ℕ → Type 0
     Left a b c = (add_vector (quadratic s.d) (add_vector (quadratic s.d) (edge_vector T a) (edge_vector T b)) (edge_vector T c) ≡ zero_vector (quadratic s.d))
@@ -232,7 +232,7 @@ module _ (s : GluedPolygons) (surface : IsTranslationSurface s) (triangles : Tri
     numbers : (h : ℕ) → h < 3 * all_faces polygons → (next_in_face (next_in_face (next_in_face h)) ≡ h) × (prev_in_face h ≡ next_in_face (next_in_face h)) × (next_in_face h < 3 * all_faces polygons)
     numbers h l =
         let n = by_face Turns (all_faces polygons) (λ a b c p. (p.1, p.2, p.0, p.4, p.5, p.3, p.7, p.8, p.6))
-            (λ f m. (next_first f, next_second f, next_third f, prev_first f, prev_second f, prev_third f, omega arith, omega arith, omega arith)) h l in
+        (λ f m. (next_first f, next_second f, next_third f, prev_first f, prev_second f, prev_third f, omega arith, omega arith, omega arith)) h l in
         (n.2, n.3, n.7)
 
     pub fan_triangles : AreTriangles (quadratic s.d) (IsPositive s.d) G
@@ -348,7 +348,7 @@ module _ (s : GluedPolygons) (surface : IsTranslationSurface s) (triangles : Tri
 
           face_held : (f : ℕ) → f < all_faces polygons → Held (3 * f + 0)
           face_held = by_triangle (λ f. Held (3 * f + 0)) (λ i t there l.
-            across i t l (surface.connected i there (λ i. held (3 * (faces_before polygons i + 0) + 0)) (subst Held zero_is first) held_neighbour))
+              across i t l (surface.connected i there (λ i. held (3 * (faces_before polygons i + 0) + 0)) (subst Held zero_is first) held_neighbour))
 
     -- the first cut is a triangulation
     pub fan_is_triangulation : sum_by length polygons ≤ most_sides → IsTriangulation s.d T

@@ -1,5 +1,5 @@
 -- The half-edges of the first cut along the sides of polygons, by their numbers.
-use Rattle.std.proofs.Common.{◌≡◌, ◌⊎◌, ℕ, zero, suc, ◌+◌, ◌-◌, ◌*◌, ◌<◌, ◌≤◌, List, refl, sym, ap, ◌∙◌, inl, inr, arith}
+use Rattle.std.proofs.Common.{◌≡◌, ◌⊎◌, ℕ, zero, suc, ◌+◌, ◌-◌, ◌*◌, ◌<◌, ◌≤◌, List, refl, ap, ◌∙◌, inl, inr, arith}
 use Rattle.std.proofs.lemmas.Bool.Decides.{nat_tests}
 use Rattle.fs_plane.specs.declared.corners.Corner.{Corner}
 use Rattle.fs_gluing.specs.declared.surfaces.Side.{Side}
@@ -57,7 +57,7 @@ module _ (polygons : List (List Side)) (i : ℕ) where
 -- a side of a polygon is its first one, one between, or its last one
 pub side_cases : (j m : ℕ) → 3 ≤ m → j < m → (j ≡ 0) ⊎ (((t : ℕ) × (j ≡ t + 1) × (t + 2 < m)) ⊎ ((t : ℕ) × (j ≡ t + 2) × (t + 3 ≡ m)))
 side_cases zero m l k = inl refl
-side_cases (suc j) m l k = elim (last_or_not j m k) [ | inl more ↦ inr (inl (j, omega arith, more)) | inr last ↦ inr (inr (j - 1, omega arith, omega arith)) ]
+side_cases (suc j) m l k = elim (last_or_not j m k) [ inl more ↦ inr (inl (j, omega arith, more)) | inr last ↦ inr (inr (j - 1, omega arith, omega arith)) ]
   where
     last_or_not : (j m : ℕ) → suc j < m → (j + 2 < m) ⊎ (j + 2 ≡ m)
     last_or_not j m k = grind arith

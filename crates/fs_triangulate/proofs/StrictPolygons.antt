@@ -1,29 +1,29 @@
 -- Polygons of a surface without straight corners: their corners by numbers, and which corners are left of which sides.
-use Rattle.std.proofs.Common.{◌≡◌, ◌⊎◌, ℕ, zero, suc, ◌+◌, ◌-◌, ◌<◌, ◌≤◌, false, Option, Some, None, List, [], ◌∷◌, refl, sym, ap, ◌∙◌, subst, inl, inr, arith}
+use Rattle.std.proofs.Common.{◌≡◌, ℕ, zero, suc, ◌+◌, ◌-◌, ◌<◌, ◌≤◌, false, Option, List, [], ◌∷◌, refl, sym, ap, ◌∙◌, subst, arith}
 use Rattle.std.proofs.lemmas.Bool.Decides.{nat_tests}
 use Rattle.std.proofs.lemmas.Option.{unwrap_or-slice_get}
-use Rattle.std.specs.Option.{IsSome, option_and_then}
+use Rattle.std.specs.Option.{option_and_then}
 use Rattle.std.specs.List.{slice_get, AllByRecursion}
 use Rattle.fs_lists.proofs.All.{All-slice_get}
 use Rattle.fs_cycles.specs.Cycles.{iterate}
 use Rattle.fs_cycles.proofs.Iterates.{iterate_after}
 use Rattle.fs_ring.specs.Vector.{add_vector, sub_vector, cross}
 use Rattle.fs_ring.proofs.Signs as signs
-use Rattle.fs_ring.proofs.Solver.{expressions as E, numeral, ◌≐◌, ◌from◌}
-use Rattle.fs_ring.proofs.PlaneSolver.{plane_identity, plane_derived, vector_identity, ◌≐ᵥ◌}
+use Rattle.fs_ring.proofs.Solver.{expressions as E, ◌≐◌}
+use Rattle.fs_ring.proofs.PlaneSolver.{plane_identity, vector_identity, ◌≐ᵥ◌}
 use Rattle.fs_quadratic.specs.Ring.{Quadratic, quadratic, IsPositive}
 use Rattle.fs_plane.specs.declared.corners.Corner.{Corner}
 use Rattle.fs_plane.specs.Vector.{PlaneVector, IsStrictlyConvex, IsAllowedCorner}
-use Rattle.fs_convex.specs.Polygon.{position, IsConvexPolygon}
+use Rattle.fs_convex.specs.Polygon.{position}
 use Rattle.fs_convex.proofs.Corners.{corner_left_of_side}
 use Rattle.fs_paths.specs.SideGluing.{SideGluing, nth_side, sides_from}
 use Rattle.fs_paths.proofs.Developments.{put_polygon, nth_side_is_side}
 use Rattle.fs_gluing.specs.declared.surfaces.Side.{Side}
 use Rattle.fs_gluing.specs.Convex.{corners_of, corner_position}
-use Rattle.fs_gluing.specs.Polygons.{at_side, HasSide}
+use Rattle.fs_gluing.specs.Polygons.{HasSide}
 use Rattle.fs_gluing.specs.Surface.{GluedPolygons, IsTranslationSurface, IsPolygon, side_vectors}
 use Rattle.fs_gluing.specs.NextCorner.{side_count, length_or_0, corner_after, side_before}
-use Rattle.fs_gluing.specs.SurfaceSides.{vector_or, vector_of, polygon_sides, is_ahead}
+use Rattle.fs_gluing.specs.SurfaceSides.{vector_or, vector_of, polygon_sides}
 use Rattle.fs_gluing.specs.FirstCut.{position_in}
 use Rattle.fs_gluing.proofs.SurfaceCalls.NextCorner.{in_polygon, before, has_after, before-after_corner}
 use Rattle.fs_gluing.proofs.Sides.AllSides.{corner}
