@@ -1,0 +1,5 @@
+pub mod ListWrites
+pub mod HalfEdgeNumbers
+pub mod FlippedLists
+pub mod FacePositions
+pub mod MeshAfterFlip
