@@ -3,3 +3,4 @@ pub mod HalfEdgeNumbers
 pub mod FlippedLists
 pub mod FacePositions
 pub mod MeshAfterFlip
+pub mod Arenas

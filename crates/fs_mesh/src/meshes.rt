@@ -1,18 +1,21 @@
 // The mesh of a surface: an arena of half-edges.
 
-ghost use Rattle.std.specs.Prelude.{◌≡◌, ◌*◌, length};
+ghost use Rattle.std.specs.Prelude.{◌≡◌, ◌*◌, ◌<◌, Ok, Err, length, IfOk, OnOk, OnErr, MatchResult, ◌↔◌};
+ghost use Rattle.fs_quadratic.specs.Ring.{IsPositive};
+ghost use Rattle.fs_plane.specs.Vector.{PlaneVector, IsInsideFaceCircle};
+ghost use Rattle.fs_gluing.specs.Triangulation.{IsTriangulation, IsCutFrom, IsEdge, triangulation_of, edge_vector, edge_twin, next_in_face};
+ghost use Rattle.fs_mesh.specs.Arena.{arena_triangles, HasNexts, hinge_of};
+ghost use Rattle.fs_mesh.specs.Meshes.{IsMesh, IsIllegal, edge_circle, edge_circle_after, hinge_after, hinge_before, hinge_after_twin};
+ghost use Rattle.fs_mesh.specs.FlippedMeshes.{IsFlipOf, ArePastedAndCut, flipped_vector};
 
-use fs_gluing::Surface;
-use fs_plane::V2;
+use crate::arena::{HalfEdge, Hinge, push_face, write_flip};
+use fs_fraction::NoMemory;
+use fs_gluing::{Surface, Triangles};
+use fs_plane::steps::vector_sum_after;
+use fs_plane::{Place, V2, circle};
+use fs_quadratic::Elem;
+use std::alloc::{AllocError, Global};
 use std::marker::Model;
-
-// A half-edge: its scaled vector, its twin, and the next half-edge of its face.
-#[derive(Clone, Copy)]
-struct HalfEdge {
-    vector: V2,
-    twin: u32,
-    next: u32,
-}
 
 /// The triangles into which a surface is cut, in one arena of half-edges: half-edge k of face f has the
 /// number 3·f + k. Each face is a counterclockwise triangle, the half-edges are twins in pairs with opposite
@@ -25,20 +28,38 @@ pub struct Mesh<'a> {
 }
 
 impl<'a> Model for Mesh<'a> {
-    ghost use Rattle.std.specs.Prelude.{◌≡◌, ℕ, map, length};
-    ghost use Rattle.std.specs.List.{range_with_len};
-    ghost use Rattle.fs_gluing.specs.Triangulation.{next_in_face};
+    ghost use Rattle.fs_mesh.specs.Arena.{arena_triangles, HasNexts};
     ghost use Rattle.fs_mesh.specs.Meshes.{MeshValue, IsMesh};
 
     ghost Value = { MeshValue };
 
-    ghost view = { λ m. record { surface = m.surface.now; triangles = record { vectors = map (λ h. h.vector) m.half_edges.items; twins = map (λ h. h.twin) m.half_edges.items } } };
+    ghost view = { λ m. record { surface = m.surface.now; triangles = arena_triangles m.half_edges.items } };
 
-    ghost invariant = { λ m. IsMesh (record { surface = m.surface.now; triangles = record { vectors = map (λ h. h.vector) m.half_edges.items; twins = map (λ h. h.twin) m.half_edges.items } })
-        × (map (λ h. h.next) m.half_edges.items ≡ map next_in_face (range_with_len 0 (length m.half_edges.items))) };
+    ghost invariant = { λ m. IsMesh (record { surface = m.surface.now; triangles = arena_triangles m.half_edges.items }) × HasNexts m.half_edges.items };
 }
 
 impl<'a> Mesh<'a> {
+    /// The mesh of a surface with these triangles, into which it is cut. The corners at which their half-edges
+    /// begin aren't kept. Its cost is linear in the number of triangles.
+    pub fn new(
+        alloc: Global,
+        surface: &'a Surface,
+        triangles: Triangles,
+    ) -> Result<Mesh<'a>, NoMemory>
+        requires triangulation { IsTriangulation surface.now.d (triangulation_of triangles) }
+        requires cut { IsCutFrom surface.now (triangulation_of triangles) }
+        ensures surface { IfOk result (λ mesh. mesh.surface ≡ surface.now) }
+        ensures triangles { IfOk result (λ mesh. mesh.triangles ≡ triangulation_of triangles) }
+    {
+        // A look at a field makes the invariant of the surface known here.
+        let _ = surface.field();
+        let half_edges = fill(alloc, &triangles)?;
+        Ok(Mesh {
+            surface,
+            half_edges,
+        })
+    }
+
     /// The surface that it borrows.
     pub fn surface(&self) -> &'a Surface
         ensures { result.now ≡ self.now.surface }
@@ -48,8 +69,76 @@ impl<'a> Mesh<'a> {
 
     /// How many faces there are: 1 to 1,022.
     pub fn faces(&self) -> u32
-        ensures { 3 * result ≡ length self.now.triangles.vectors }
+        ensures faces { 3 * result ≡ length self.now.triangles.vectors }
+        ensures mesh { IsMesh self.now }
     {
-        self.half_edges.len() as u32 / 3
+        self.half_edges() / 3
     }
+
+    /// How many half-edges there are: three for each face.
+    pub fn half_edges(&self) -> u32
+        ensures half_edges { result ≡ length self.now.triangles.vectors }
+        ensures mesh { IsMesh self.now }
+    {
+        self.half_edges.len() as u32
+    }
+
+    /// The scaled vector of a half-edge.
+    pub fn vector(&self, h: u32) -> V2
+        requires { h < length self.now.triangles.vectors }
+        ensures { result ≡ edge_vector self.now.triangles h }
+    {
+        self.half_edges[h as usize].vector
+    }
+
+    /// The twin of a half-edge: the other half-edge of its edge, which leads the other way.
+    pub fn twin(&self, h: u32) -> u32
+        requires { h < length self.now.triangles.vectors }
+        ensures twin { result ≡ edge_twin self.now.triangles h }
+        ensures there { result < length self.now.triangles.vectors }
+    {
+        self.half_edges[h as usize].twin
+    }
+
+    /// The next half-edge of a half-edge's face, counterclockwise.
+    pub fn next(&self, h: u32) -> u32
+        requires { h < length self.now.triangles.vectors }
+        ensures next { result ≡ next_in_face h }
+        ensures there { result < length self.now.triangles.vectors }
+    {
+        self.half_edges[h as usize].next
+    }
+
+    // The half-edges of the hinge of an edge.
+    fn hinge(&self, edge: u32) -> Hinge
+        requires { edge < length self.now.triangles.vectors }
+        ensures { result ≡ hinge_of self.now.triangles edge }
+    {
+        let after = self.next(edge);
+        let twin = self.twin(edge);
+        let after_twin = self.next(twin);
+        Hinge {
+            edge,
+            after,
+            before: self.next(after),
+            twin,
+            after_twin,
+            before_twin: self.next(after_twin),
+        }
+    }
+}
+
+// The arena of these triangles.
+fn fill(alloc: Global, triangles: &Triangles) -> Result<Vec<HalfEdge>, AllocError>
+    requires as_many { length (triangulation_of triangles.now).twins ≡ length (triangulation_of triangles.now).vectors }
+    requires few { length (triangulation_of triangles.now).twins < 10000 }
+    ensures triangles { IfOk result (λ half_edges. arena_triangles half_edges.items ≡ triangulation_of triangles.now) }
+    ensures nexts { IfOk result (λ half_edges. HasNexts half_edges.items) }
+{
+    let twins = triangles.twins.as_slice();
+    let mut half_edges = Vec::with_capacity(alloc, twins.len())?;
+    for face in triangles.faces.as_slice() {
+        push_face(&mut half_edges, face, twins)?;
+    }
+    Ok(half_edges)
 }
