@@ -1,5 +1,5 @@
 -- Arenas of half-edges: what is read from them, and how they are filled.
-use Rattle.std.proofs.Common.{◌≡◌, ℕ, ◌+◌, ◌<◌, ◌≤◌, List, [], ◌∷◌, ◌++◌, length, map, take, get_or, refl, sym, ap, ◌∙◌, subst, arith, zero-add, length-append}
+use Rattle.std.proofs.Common.{◌≡◌, ℕ, ◌+◌, ◌<◌, ◌≤◌, List, [], ◌∷◌, ◌++◌, length, map, take, get_or, sym, ap, ◌∙◌, subst, arith, zero-add, length-append}
 use Rattle.std.proofs.lemmas.List.{map-append, take_more, get_or-map, length-map}
 use Rattle.std.proofs.lemmas.List.FromFn.{map-range_with_len_more, get_or-map-range_with_len}
 use Rattle.std.proofs.lemmas.List.Folds.{length-flat_map-take}
@@ -8,7 +8,7 @@ use Rattle.fs_plane.specs.Vector.{PlaneVector, vector_zero}
 use Rattle.fs_gluing.specs.Surface.{GluedPolygons}
 use Rattle.fs_gluing.specs.Triangulation.{edge_vector, edge_twin, next_in_face}
 use Rattle.fs_mesh.specs.declared.arena.HalfEdge.{HalfEdge}
-use Rattle.fs_mesh.specs.Arena.{vectors_of, twins_of, nexts_of, arena_triangles, HasNexts, IsFilled}
+use Rattle.fs_mesh.specs.Arena.{vectors_of, arena_triangles, HasNexts, IsFilled}
 use Rattle.fs_mesh.specs.Meshes.{IsMesh}
 use Rattle.fs_mesh.proofs.HalfEdgeNumbers.{next_is_below, twin_is_below}
 
@@ -67,7 +67,9 @@ filled_more twins half_edges vector filled room = record {
   where
     n : ℕ
     n = length half_edges
+
     added : HalfEdge
     added = record { vector = vector; twin = get_or twins n 0; next = next_in_face n }
+
     longer : length (half_edges ++ added ∷ []) ≡ n + 1
     longer = length-append half_edges (added ∷ [])

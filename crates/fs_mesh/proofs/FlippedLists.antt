@@ -1,14 +1,13 @@
 -- The lists of a triangulation after the writes of a flip: each half-edge has its vector and its twin at its moved name.
-use Rattle.std.proofs.Common.{◌≡◌, ◌≢◌, ◌⊎◌, ℕ, ◌<◌, Bool, cond, List, [], ◌∷◌, length, get_or, eqb, ltb, refl, sym, ap, ◌∙◌, subst, inl, inr}
+use Rattle.std.proofs.Common.{◌≡◌, ◌≢◌, ◌⊎◌, ℕ, ◌<◌, cond, List, [], ◌∷◌, length, get_or, eqb, ltb, refl, sym, ap, ◌∙◌, subst, inl, inr}
 use Rattle.std.proofs.Math.ListN.{set}
 use Rattle.std.specs.List.{AllByRecursion}
 use Rattle.fs_ring.specs.OrderedRing.{IsOrderedRing}
-use Rattle.fs_ring.specs.Vector.{add_vector, neg_vector}
 use Rattle.fs_quadratic.specs.Ring.{Quadratic, quadratic, IsPositive}
 use Rattle.fs_plane.specs.Vector.{PlaneVector, vector_zero, vector_add, vector_neg}
 use Rattle.fs_paths.specs.SideGluing.{SideGluing, IsSide}
 use Rattle.fs_triangles.specs.Triangles.{AreTriangles}
-use Rattle.fs_triangles.specs.Flips.{moved, IsFlip}
+use Rattle.fs_triangles.specs.Flips.{moved}
 use Rattle.fs_triangles.proofs.Names.{chosen, not_chosen}
 use Rattle.fs_triangles.proofs.TriangleSides as triangle_sides
 use Rattle.fs_triangles.proofs.HingeNames as hinge_names
@@ -96,26 +95,37 @@ module _ {d : ℕ} (L : IsOrderedRing (quadratic d) (IsPositive d)) (t : Triangu
       where
         moved_edge : h ≡ m h
         moved_edge = sym (hinge_names.moved_edge L eqb_tells_names triangles h h_side)
+
         moved_twin : e ≡ m e
         moved_twin = sym (hinge_names.moved_twin L eqb_tells_names triangles h h_side)
+
         moved_prev : a ≡ m b
         moved_prev = sym (hinge_names.moved_prev L eqb_tells_names triangles h h_side)
+
         moved_next_of_twin : b ≡ m c
         moved_next_of_twin = sym (hinge_names.moved_next_of_twin L eqb_tells_names triangles h h_side)
+
         moved_prev_of_twin : c ≡ m g
         moved_prev_of_twin = sym (hinge_names.moved_prev_of_twin L eqb_tells_names triangles h h_side)
+
         moved_next : g ≡ m a
         moved_next = sym (hinge_names.moved_next L eqb_tells_names triangles h h_side)
+
         of_edge : across ≡ vector_after h
         of_edge = sym vector_of_edge
+
         of_twin : vector_neg across ≡ vector_after e
         of_twin = sym vector_of_twin
+
         of_prev : edge_vector t b ≡ vector_after b
         of_prev = sym (vector_of_other b (triangle_sides.prev_not_self L triangles h h_side) (λ f. triangle_sides.twin_not_prev L triangles h h_side (sym f)))
+
         of_next_of_twin : edge_vector t c ≡ vector_after c
         of_next_of_twin = sym (vector_of_other c (λ f. hinge_names.edge_not_next_of_twin L eqb_tells_names triangles h h_side (sym f)) (triangle_sides.next_not_self L triangles e e_side))
+
         of_prev_of_twin : edge_vector t g ≡ vector_after g
         of_prev_of_twin = sym (vector_of_other g (λ f. hinge_names.edge_not_prev_of_twin L eqb_tells_names triangles h h_side (sym f)) (triangle_sides.prev_not_self L triangles e e_side))
+
         of_next : edge_vector t a ≡ vector_after a
         of_next = sym (vector_of_other a (triangle_sides.next_not_self L triangles h h_side) (λ f. triangle_sides.twin_not_next L triangles h h_side (sym f)))
 
@@ -161,9 +171,31 @@ module _ {d : ℕ} (L : IsOrderedRing (quadratic d) (IsPositive d)) (t : Triangu
       let next = triangles.next_side in
       let twin = triangles.twin_side in (
         moves h h_side,
-        (moves e e_side, (moves b (before_side h h_side), (moves c (next e e_side), (moves g (before_side e e_side), (moves a (next h h_side),
-        (moves (edge_twin t a) (twin a (next h h_side)), (moves (edge_twin t b) (twin b (before_side h h_side)), (moves (edge_twin t c) (twin c (next e e_side)),
-        (moves (edge_twin t g) (twin g (before_side e e_side)), tt))))))))),
+        (
+          moves e e_side,
+          (
+            moves b (before_side h h_side),
+            (
+              moves c (next e e_side),
+              (
+                moves g (before_side e e_side),
+                (
+                  moves a (next h h_side),
+                  (
+                    moves (edge_twin t a) (twin a (next h h_side)),
+                    (
+                      moves (edge_twin t b) (twin b (before_side h h_side)),
+                      (
+                        moves (edge_twin t c) (twin c (next e e_side)),
+                        (moves (edge_twin t g) (twin g (before_side e e_side)), tt),
+                      ),
+                    ),
+                  ),
+                ),
+              ),
+            ),
+          ),
+        ),
       )
 
   twins_written : twins_after ≡ written 0 m twin_after t.twins neighbours
@@ -182,24 +214,34 @@ module _ {d : ℕ} (L : IsOrderedRing (quadratic d) (IsPositive d)) (t : Triangu
     where
       moved_edge : h ≡ m h
       moved_edge = sym (hinge_names.moved_edge L eqb_tells_names triangles h h_side)
+
       moved_twin : e ≡ m e
       moved_twin = sym (hinge_names.moved_twin L eqb_tells_names triangles h h_side)
+
       moved_prev : a ≡ m b
       moved_prev = sym (hinge_names.moved_prev L eqb_tells_names triangles h h_side)
+
       moved_next_of_twin : b ≡ m c
       moved_next_of_twin = sym (hinge_names.moved_next_of_twin L eqb_tells_names triangles h h_side)
+
       moved_prev_of_twin : c ≡ m g
       moved_prev_of_twin = sym (hinge_names.moved_prev_of_twin L eqb_tells_names triangles h h_side)
+
       moved_next : g ≡ m a
       moved_next = sym (hinge_names.moved_next L eqb_tells_names triangles h h_side)
+
       of_twin : h ≡ m (edge_twin t e)
       of_twin = moved_edge ∙ ap m (sym (hinge_names.twin_e L eqb_tells_names triangles h h_side))
+
       back_a : g ≡ m (edge_twin t (edge_twin t a))
       back_a = moved_next ∙ ap m (sym (triangles.twin_twin a (triangles.next_side h h_side)))
+
       back_b : a ≡ m (edge_twin t (edge_twin t b))
       back_b = moved_prev ∙ ap m (sym (triangles.twin_twin b (before_side h h_side)))
+
       back_c : b ≡ m (edge_twin t (edge_twin t c))
       back_c = moved_next_of_twin ∙ ap m (sym (triangles.twin_twin c (triangles.next_side e e_side)))
+
       back_g : c ≡ m (edge_twin t (edge_twin t g))
       back_g = moved_prev_of_twin ∙ ap m (sym (triangles.twin_twin g (before_side e e_side)))
 
@@ -257,9 +299,12 @@ module _ {d : ℕ} (L : IsOrderedRing (quadratic d) (IsPositive d)) (t : Triangu
     where
       across : PlaneVector
       across = vector_add (edge_vector t g) (edge_vector t a)
+
       as_many_vectors : length after.vectors ≡ length t.vectors
       as_many_vectors = ap length (vectors ∙ vectors_written across) ∙ length-written vector_zero m (vector_after across) t.vectors hinge
+
       vector_at : (y : ℕ) → IsSide G y → {x : ℕ} → x ≡ m y → edge_vector after x ≡ vector_after across y
       vector_at y s f = (λ i. get_or (vectors i) (f i) vector_zero) ∙ vector_moved across y s
+
       twin_at : (y : ℕ) → IsSide G y → {x : ℕ} → x ≡ m y → edge_twin after x ≡ m (edge_twin t y)
       twin_at y s f = (λ i. get_or (twins i) (f i) 0) ∙ twin_moved as_many y s

@@ -1,5 +1,5 @@
 -- Half-edges of a triangulation by their numbers: which there are, and which belong to a hinge.
-use Rattle.std.proofs.Common.{◌≡◌, ◌≢◌, ℕ, ◌<◌, Bool, IsTrue, length, eqb, sym, subst}
+use Rattle.std.proofs.Common.{ℕ, ◌<◌, length, eqb}
 use Rattle.std.proofs.lemmas.Bool.{eqb-true, eq-eqb, ltb-true, lt-ltb}
 use Rattle.fs_cuts.specs.EdgeRemoval.{TellsNames}
 use Rattle.fs_paths.specs.SideGluing.{IsSide}

@@ -4,3 +4,5 @@ pub mod FlippedLists
 pub mod FacePositions
 pub mod MeshAfterFlip
 pub mod Arenas
+pub mod HingeHalfEdges
+pub mod FlippedArenas

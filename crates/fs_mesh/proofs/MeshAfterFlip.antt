@@ -1,14 +1,14 @@
 -- The mesh after a flip: its triangulation, and the cuts that lead to it.
-use Rattle.std.proofs.Common.{◌≡◌, ℕ, ◌<◌, length, eqb, Ok, sym, ap, ◌∙◌, subst}
+use Rattle.std.proofs.Common.{ℕ, ◌<◌, length, eqb, ◌∙◌}
 use mathlib.Core.Logic.{∥∥₁_map}
 use Rattle.fs_ring.specs.OrderedRing.{IsOrderedRing}
 use Rattle.fs_ring.specs.Direction.{InHalfPlane, inside}
 use Rattle.fs_quadratic.specs.Ring.{quadratic, IsPositive}
 use Rattle.fs_quadratic.proofs.Laws.{field_order}
 use Rattle.fs_quadratic.specs.Radicand.{IsRadicand}
-use Rattle.fs_paths.specs.SideGluing.{SideGluing, IsSide, AreGluedPolygons}
+use Rattle.fs_paths.specs.SideGluing.{IsSide, AreGluedPolygons}
 use Rattle.fs_convex.specs.Turning.{DecidesHalfPlanes}
-use Rattle.fs_cuts.specs.EdgeRemoval.{IsWithoutEdge, without_edge}
+use Rattle.fs_cuts.specs.EdgeRemoval.{without_edge}
 use Rattle.fs_cuts.specs.CutAndPaste.{CutAndPaste}
 use Rattle.fs_cuts.proofs.ListsOfSteps.{append}
 use Rattle.fs_cuts.proofs.RemovalGluing as removal_gluing
@@ -19,9 +19,8 @@ use Rattle.fs_triangles.proofs.TriangleSides as triangle_sides
 use Rattle.fs_triangles.proofs.FlippedTriangles.{convex_of_circle, flipped_triangles}
 use Rattle.fs_triangles.proofs.FlippedConnections.{connected_after_flip}
 use Rattle.fs_triangles.proofs.FlipSteps.{flip_steps, cut_by_flipped_edge}
-use Rattle.fs_gluing.specs.Surface.{GluedPolygons, IsSurface}
 use Rattle.fs_gluing.specs.SurfaceSides.{is_ahead}
-use Rattle.fs_gluing.specs.Triangulation.{Triangulation, IsTriangulation, IsCutFrom, face_sides, edge_twin, next_in_face, prev_in_face}
+use Rattle.fs_gluing.specs.Triangulation.{Triangulation, IsTriangulation, face_sides, edge_twin, next_in_face, prev_in_face}
 use Rattle.fs_gluing.proofs.Sides.HalfPlaneTests.{decides_half_planes}
 use Rattle.fs_mesh.specs.Meshes.{MeshValue, IsMesh, IsIllegal}
 use Rattle.fs_mesh.specs.FlippedMeshes.{IsFlipOf, ArePastedAndCut}

@@ -134,8 +134,18 @@ pub fn write_flip(half_edges: &mut [HalfEdge], hinge: &Hinge, across: V2)
     put(half_edges, hinge.edge, across, hinge.twin);
     put(half_edges, hinge.twin, across.neg(), hinge.edge);
     put(half_edges, hinge.after, before.vector, outer_before);
-    put(half_edges, hinge.before, after_twin.vector, outer_after_twin);
-    put(half_edges, hinge.after_twin, before_twin.vector, outer_before_twin);
+    put(
+        half_edges,
+        hinge.before,
+        after_twin.vector,
+        outer_after_twin,
+    );
+    put(
+        half_edges,
+        hinge.after_twin,
+        before_twin.vector,
+        outer_before_twin,
+    );
     put(half_edges, hinge.before_twin, after.vector, outer_after);
     link(half_edges, outer_after, hinge.before_twin);
     link(half_edges, outer_before, hinge.after);

@@ -1,10 +1,10 @@
 // The mesh of a surface: an arena of half-edges.
 
-ghost use Rattle.std.specs.Prelude.{◌≡◌, ◌*◌, ◌<◌, Ok, Err, length, IfOk, OnOk, OnErr, MatchResult, ◌↔◌};
+ghost use Rattle.std.specs.Prelude.{◌≡◌, ◌*◌, ◌<◌, Err, length, IfOk, IsOk, OnOk, OnErr, MatchResult, ◌↔◌};
 ghost use Rattle.fs_quadratic.specs.Ring.{IsPositive};
-ghost use Rattle.fs_plane.specs.Vector.{PlaneVector, IsInsideFaceCircle};
+ghost use Rattle.fs_plane.specs.Vector.{IsInsideFaceCircle};
 ghost use Rattle.fs_gluing.specs.Triangulation.{IsTriangulation, IsCutFrom, IsEdge, triangulation_of, edge_vector, edge_twin, next_in_face};
-ghost use Rattle.fs_mesh.specs.Arena.{arena_triangles, HasNexts, hinge_of};
+ghost use Rattle.fs_mesh.specs.Arena.{arena_triangles, HasNexts, hinge_of, IsWithin};
 ghost use Rattle.fs_mesh.specs.Meshes.{IsMesh, IsIllegal, edge_circle, edge_circle_after, hinge_after, hinge_before, hinge_after_twin};
 ghost use Rattle.fs_mesh.specs.FlippedMeshes.{IsFlipOf, ArePastedAndCut, flipped_vector};
 
@@ -109,11 +109,59 @@ impl<'a> Mesh<'a> {
         self.half_edges[h as usize].next
     }
 
+    /// The circle value of an edge, or the first place of its formula that overflows. The formula is that of
+    /// `circle`, at the sides of the hinge, the two triangles at the edge: those after and before the half-edge
+    /// that names the edge, then those after and before its twin. The edge is illegal (not Delaunay) where the
+    /// value is above 0: then the fourth vertex is strictly inside the circle through the vertices of the face of
+    /// `edge`. Takes constant time and no memory.
+    pub fn circle_of(&self, edge: u32) -> Result<Elem, Place>
+        requires { IsEdge self.now.triangles edge }
+        ensures formula { result ≡ edge_circle_after self.now.surface.d self.now.triangles edge }
+        ensures value { IfOk result (λ value. value ≡ edge_circle self.now.surface.d self.now.triangles edge) }
+        ensures inside { IfOk result (λ value. IsPositive self.now.surface.d value ↔ IsInsideFaceCircle self.now.surface.d
+            (hinge_after self.now.triangles edge) (hinge_before self.now.triangles edge) (hinge_after_twin self.now.triangles edge)) }
+    {
+        let hinge = self.hinge(edge);
+        circle(
+            self.surface.field(),
+            self.vector(hinge.after),
+            self.vector(hinge.before),
+            self.vector(hinge.after_twin),
+            self.vector(hinge.before_twin),
+        )
+    }
+
+    /// Flips an illegal edge: it becomes the other diagonal of its hinge, the two triangles at the edge. The
+    /// half-edge that names it then leads from the end of the half-edge after it to the end of the one after its
+    /// twin, and keeps its number, as its twin does. The four sides of the hinge move on by one number, round the
+    /// hinge.
+    ///
+    /// The error is place 1 or 2 where the x or the y of the new edge's vector overflows. The mesh is then as it
+    /// was. Takes constant time and no memory.
+    pub fn flip(&mut self, edge: u32) -> Result<(), Place>
+        requires edge { IsEdge self.old.triangles edge }
+        requires illegal { IsIllegal self.old.surface.d self.old.triangles edge }
+        ensures surface { self.new.surface ≡ self.old.surface }
+        ensures flipped { OnOk result (IsFlipOf self.old.surface.d self.old.triangles edge self.new.triangles) }
+        // One cut undone and one cut lead to the new faces.
+        ensures steps { OnOk result (ArePastedAndCut self.old.surface.d self.old.triangles self.new.triangles) }
+        ensures refused { MatchResult result (λ _. IsOk (flipped_vector self.old.triangles edge)) (λ place. flipped_vector self.old.triangles edge ≡ Err place) }
+        ensures unchanged { OnErr result (self.new ≡ self.old) }
+    {
+        let hinge = self.hinge(edge);
+        let across = vector_sum_after(0, self.vector(hinge.before_twin), self.vector(hinge.after))?;
+        write_flip(&mut self.half_edges, &hinge, across);
+        Ok(())
+    }
+
     // The half-edges of the hinge of an edge.
     fn hinge(&self, edge: u32) -> Hinge
         requires { edge < length self.now.triangles.vectors }
-        ensures { result ≡ hinge_of self.now.triangles edge }
+        ensures hinge { result ≡ hinge_of self.now.triangles edge }
+        ensures within { IsWithin (length self.now.triangles.vectors) self.now.triangles.twins result }
     {
+        // A look at a field makes the invariant of the mesh known here.
+        let _ = &self.half_edges;
         let after = self.next(edge);
         let twin = self.twin(edge);
         let after_twin = self.next(twin);
