@@ -1,0 +1,1 @@
+-- The proofs of fs_delaunay, by subject.

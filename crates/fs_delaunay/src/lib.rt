@@ -1,0 +1,2 @@
+// Delaunay triangulations by flips of illegal edges, and their cells.
+#![tactic(auto)]
