@@ -5,7 +5,7 @@ use Rattle.fs_gluing.specs.declared.faults.Fault.{Fault}
 use Rattle.fs_gluing.specs.declared.shapes.Point.{Point}
 use Rattle.fs_job.specs.declared.job.Command.{Command}
 use Rattle.fs_job.specs.declared.job.Command.TheVariants as commands
-use Rattle.fs_job.specs.Statement.{Pair, StatedCommand, check, stratum, segment, argument_texts, command_line}
+use Rattle.fs_job.specs.Statement.{Pair, StatedCommand, check, stratum, segment, delaunay, cells, argument_texts, command_line}
 use Rattle.fs_job.specs.Draft.{Draft, drafted, to_fault, IsAllowed, HasRoom, IsNumber, IsPoint, IsOrigin, HasZeroDirection, IsCommand, StatementLeads, bad_number, senseless}
 use Rattle.fs_job.specs.Reading.{HasDirection}
 use Rattle.fs_job.specs.Line.{IsArgumentFault}
@@ -16,18 +16,24 @@ pub command_unique : (n : ℕ) (stated : StatedCommand) (c d : Command) → IsCo
 command_unique n check c d p q = p ∙ sym q
 command_unique n stratum c d p q = p ∙ sym q
 command_unique n (segment start pair) c d p q = p.2 ∙ (ap (λ (v : Point). commands.Segment n start v) (point_unique pair p.0 q.0 p.1 q.1) ∙ sym q.2)
+command_unique n delaunay c d p q = p ∙ sym q
+command_unique n cells c d p q = p ∙ sym q
 
 -- the texts of a stated command that is a command are numbers
 pub command_is_numbers : (n : ℕ) (stated : StatedCommand) (command : Command) → IsCommand n stated command → AllByRecursion IsNumber (argument_texts stated)
 command_is_numbers n check command p = tt
 command_is_numbers n stratum command p = tt
 command_is_numbers n (segment start pair) command p = point_is_numbers pair p.0 p.1
+command_is_numbers n delaunay command p = tt
+command_is_numbers n cells command p = tt
 
 -- a stated command whose texts are numbers is a command
 pub command_exists : (n : ℕ) (stated : StatedCommand) → AllByRecursion IsNumber (argument_texts stated) → (command : Command) × IsCommand n stated command
 command_exists n check all = (_, refl)
 command_exists n stratum all = (_, refl)
 command_exists n (segment start pair) all = let found = point_exists pair all in (_, (found.0, found.1, refl))
+command_exists n delaunay all = (_, refl)
+command_exists n cells all = (_, refl)
 
 -- ---- directions
 
@@ -40,6 +46,8 @@ pub has_direction : (n : ℕ) (stated : StatedCommand) (command : Command) → I
 has_direction n check command p nonzero = subst HasDirection (sym p) tt
 has_direction n stratum command p nonzero = subst HasDirection (sym p) tt
 has_direction n (segment start pair) command p nonzero = subst HasDirection (sym p.2) (λ zero. nonzero (p.0, p.1, zero))
+has_direction n delaunay command p nonzero = subst HasDirection (sym p) tt
+has_direction n cells command p nonzero = subst HasDirection (sym p) tt
 
 -- ---- faults
 
@@ -48,6 +56,8 @@ pub leads_to_argument_fault : (n : ℕ) (draft : Draft) (stated : StatedCommand)
     → IsArgumentFault n stated fault → StatementLeads n (drafted draft) (command_line stated) (to_fault fault)
 leads_to_argument_fault n draft check fault may room told = absurd told
 leads_to_argument_fault n draft stratum fault may room told = absurd told
+leads_to_argument_fault n draft delaunay fault may room told = absurd told
+leads_to_argument_fault n draft cells fault may room told = absurd told
 leads_to_argument_fault n draft (segment start pair) fault may room told = elim told [
   | inl bad ↦ bad_number bad.0 may room bad.1 (ap to_fault bad.2)
   | inr zero ↦ senseless fault may room (point_is_numbers pair zero.0 zero.1) ((zero.0, zero.1, zero.2), zero.3) refl

@@ -15,7 +15,7 @@ use Rattle.fs_gluing.specs.declared.shapes.Glue.{Glue}
 use Rattle.fs_gluing.specs.declared.shapes.Point.{Point}
 use Rattle.fs_job.specs.declared.job.Command.{Command}
 use Rattle.fs_job.specs.declared.job.Command.TheVariants as commands
-use Rattle.fs_job.specs.Statement.{Pair, StatedCommand, check, stratum, segment, NumberText, Statement, field_line, polygon_line, glue_line, command_line, end_line, number_texts}
+use Rattle.fs_job.specs.Statement.{Pair, StatedCommand, check, stratum, segment, delaunay, cells, NumberText, Statement, field_line, polygon_line, glue_line, command_line, end_line, number_texts}
 
 -- what the lines of a job so far said
 pub record Draft : Type 0 where
@@ -104,6 +104,8 @@ abbrev pub HasZeroDirection : StatedCommand → Type 0
 HasZeroDirection check = ⊥
 HasZeroDirection stratum = ⊥
 HasZeroDirection (segment start pair) = (point : Point) × IsPoint pair point × IsOrigin point
+HasZeroDirection delaunay = ⊥
+HasZeroDirection cells = ⊥
 
 -- a statement on the line with the number n makes no sense, though its numbers are numbers, which is this fault: the d is that of no field, or a direction is 0,0
 abbrev pub IsSenseless : ℕ → Statement → Fault → Type 0
@@ -125,6 +127,8 @@ abbrev pub IsCommand : ℕ → StatedCommand → Command → Type 0
 IsCommand n check command = command ≡ commands.Check
 IsCommand n stratum command = command ≡ commands.Stratum
 IsCommand n (segment start pair) command = (point : Point) × IsPoint pair point × (command ≡ commands.Segment n start point)
+IsCommand n delaunay command = command ≡ commands.Delaunay
+IsCommand n cells command = command ≡ commands.Cells
 
 -- the progress after the line with the number n: the draft with the statement added
 abbrev pub Adds : ℕ → Draft → Statement → Progress → Type 0

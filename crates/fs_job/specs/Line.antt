@@ -10,7 +10,7 @@ use Rattle.fs_job.specs.declared.statements.Line.TheVariants as lines
 use Rattle.fs_job.specs.declared.statements.Stated.{Stated}
 use Rattle.fs_job.specs.declared.statements.Stated.TheVariants as stated
 use Rattle.fs_job.specs.Pieces.{pieces, words_of}
-use Rattle.fs_job.specs.Statement.{Pair, StatedCommand, check, stratum, segment, Statement, field_line, polygon_line, glue_line, command_line, end_line, SpellsNumeral, SpellsCorner, IsPair, ArePairs, pair_texts}
+use Rattle.fs_job.specs.Statement.{Pair, StatedCommand, check, stratum, segment, delaunay, cells, Statement, field_line, polygon_line, glue_line, command_line, end_line, SpellsNumeral, SpellsCorner, IsPair, ArePairs, pair_texts}
 use Rattle.fs_job.specs.Draft.{HasBadNumber, number_fault, IsPoint, IsOrigin}
 
 -- what was found has P; where nothing was found, nothing has P
@@ -53,6 +53,8 @@ abbrev pub command_of : Stated → StatedCommand
 command_of stated.Check = check
 command_of stated.Stratum = stratum
 command_of (stated.Segment start pair) = segment start (pair_of pair.now)
+command_of stated.Delaunay = delaunay
+command_of stated.Cells = cells
 
 -- what a line states
 abbrev pub statement_of : Line → Statement
@@ -85,3 +87,5 @@ abbrev pub IsArgumentFault : ℕ → StatedCommand → Fault → Type 0
 IsArgumentFault n check fault = ⊥
 IsArgumentFault n stratum fault = ⊥
 IsArgumentFault n (segment start pair) fault = IsDirectionFault n pair fault
+IsArgumentFault n delaunay fault = ⊥
+IsArgumentFault n cells fault = ⊥

@@ -20,3 +20,5 @@ abbrev pub HasDirection : Command → Type 0
 HasDirection commands.Check = Unit {0}
 HasDirection commands.Stratum = Unit {0}
 HasDirection (commands.Segment n start v) = ¬ IsOrigin v
+HasDirection commands.Delaunay = Unit {0}
+HasDirection commands.Cells = Unit {0}

@@ -40,6 +40,8 @@ pub data StatedCommand : Type 0 where
   check : StatedCommand
   stratum : StatedCommand
   segment : Corner → Pair → StatedCommand
+  delaunay : StatedCommand
+  cells : StatedCommand
 
 -- what a line states
 pub data Statement : Type 0 where
@@ -51,7 +53,7 @@ pub data Statement : Type 0 where
 
 -- the words by which a command is named
 abbrev pub command_words : List (List ℕ)
-command_words = codes "check" ∷ codes "stratum" ∷ codes "segment" ∷ []
+command_words = codes "check" ∷ codes "stratum" ∷ codes "segment" ∷ codes "delaunay" ∷ codes "cells" ∷ []
 
 -- the words of each command
 abbrev pub SpellsCommand : List (List ℕ) → StatedCommand → Type 0
@@ -59,6 +61,8 @@ SpellsCommand words check = words ≡ codes "check" ∷ []
 SpellsCommand words stratum = words ≡ codes "stratum" ∷ []
 SpellsCommand words (segment start pair) =
     (start_text : List ℕ) × (pair_text : List ℕ) × (words ≡ codes "segment" ∷ start_text ∷ pair_text ∷ []) × SpellsCorner start_text start × IsPair pair_text pair
+SpellsCommand words delaunay = words ≡ codes "delaunay" ∷ []
+SpellsCommand words cells = words ≡ codes "cells" ∷ []
 
 -- the words spell this statement
 abbrev pub SpellsStatement : List (List ℕ) → Statement → Type 0
@@ -83,6 +87,8 @@ abbrev pub argument_texts : StatedCommand → List NumberText
 argument_texts check = []
 argument_texts stratum = []
 argument_texts (segment start pair) = pair_texts pair
+argument_texts delaunay = []
+argument_texts cells = []
 
 -- the texts of a statement's numbers, from left to right
 abbrev pub number_texts : Statement → List NumberText

@@ -48,5 +48,7 @@ pub fn read_command(number: u32, stated: Stated<'_>) -> Result<Command, Fault>
             start,
             v: read_direction(number, pair)?,
         }),
+        Stated::Delaunay => Ok(Command::Delaunay),
+        Stated::Cells => Ok(Command::Cells),
     }
 }

@@ -18,6 +18,10 @@ pub enum Command {
     /// Follow the straight path from a corner along a vector, which is unscaled and not 0,0. The
     /// line is that of the job that asks for it, counted from 1.
     Segment { line: u32, start: Corner, v: Point },
+    /// Flip illegal edges of the first cut until it is a Delaunay triangulation.
+    Delaunay,
+    /// Find the cells of the Delaunay triangulation: its faces, joined where they share a circle.
+    Cells,
 }
 
 /// How a job describes its surface.

@@ -26,6 +26,8 @@ pub enum Stated<'a> {
     Check,
     Stratum,
     Segment { start: Corner, pair: &'a [u8] },
+    Delaunay,
+    Cells,
 }
 
 // What a line states: its numbers are still texts.
@@ -140,6 +142,10 @@ fn stated_command<'a>(word: &[u8], words: &'a [u8]) -> Option<Stated<'a>>
         Some(Stated::Check)
     } else if word == b"stratum".as_slice() {
         Some(Stated::Stratum)
+    } else if word == b"delaunay".as_slice() {
+        Some(Stated::Delaunay)
+    } else if word == b"cells".as_slice() {
+        Some(Stated::Cells)
     } else {
         None
     }

@@ -1,4 +1,4 @@
-use Rattle.std.proofs.Common.{◌≡◌, rules}
+use Rattle.std.proofs.Common.{◌≡◌, ◌∷◌, rules, sym, arith}
 use Rattle.std.specs.Prelude.{codes}
 use Rattle.std.proofs.lemmas.Slice.Eq.{bytes_eq-Decides}
 use Rattle.fs_job.specs.Pieces.{words_of}
@@ -9,3 +9,9 @@ pub returns-in_err-start : goal.returns-in_err-start
 returns-in_err-start c = rw c.from_residual.ensures
     (let named : c.args.word.now ≡ codes "segment" = search (rules, bytes_eq-Decides) in
     not_segment_command c.args.word.now (words_of c.args.words.now) named c.in_err-start.ensures)
+
+pub returns-then-eq : goal.returns-then-eq
+returns-then-eq c =
+    let named : c.args.word.now ≡ codes "segment" = search (rules, bytes_eq-Decides) in
+    let spelled = c.in_ok-start.ensures.0 in
+    ((2, omega arith, sym named), (spelled.0, spelled.1, λ i. named i ∷ spelled.2 i, spelled.3, spelled.4), c.in_ok-start.ensures.1)
