@@ -20,7 +20,8 @@ use Rattle.fs_job.specs.declared.job.JobStop.{JobStop}
 use Rattle.fs_job.specs.declared.job.JobStop.TheVariants as job_stops
 use Rattle.fs_job.specs.Draft.{Draft}
 use Rattle.fs_job.specs.Grammar.{IsJob, IsFirstFault}
-use Rattle.fs_report.specs.Text.{fault_line, Answers, HasCorner}
+use Rattle.fs_report.specs.Answers.{Answers, HasCorner}
+use Rattle.fs_report.specs.Text.{fault_line}
 use Rattle.fs_report.proofs.AnswersUnique.{answer_unique}
 use Rattle.fs_cli.specs.declared.outcome.Status.{Status}
 use Rattle.fs_cli.specs.declared.outcome.Status.TheVariants as status

@@ -11,7 +11,8 @@ use Rattle.fs_io.specs.Faults.{Rose}
 use Rattle.fs_gluing.specs.Surface.{GluedPolygons, IsSurface}
 use Rattle.fs_job.specs.declared.job.Command.{Command}
 use Rattle.fs_gluing.specs.declared.faults.Fault.TheVariants.{NoSuchSide}
-use Rattle.fs_report.specs.Text.{fault_line, Answers, HasCorner}
+use Rattle.fs_report.specs.Answers.{Answers, HasCorner}
+use Rattle.fs_report.specs.Text.{fault_line}
 use Rattle.fs_report.proofs.AnswersUnique.{answer_unique, answer_exists}
 use Rattle.fs_cli.specs.declared.outcome.Status.{Status}
 use Rattle.fs_cli.specs.declared.outcome.Status.TheVariants as status

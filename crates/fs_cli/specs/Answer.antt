@@ -15,7 +15,8 @@ use Rattle.fs_job.specs.declared.job.Command.{Command}
 use Rattle.fs_job.specs.declared.job.Command.TheVariants as commands
 use Rattle.fs_job.specs.Draft.{Draft}
 use Rattle.fs_job.specs.Grammar.{IsJob, IsFirstFault}
-use Rattle.fs_report.specs.Text.{fault_line, build_line, Answers, HasCorner}
+use Rattle.fs_report.specs.Answers.{Answers, HasCorner}
+use Rattle.fs_report.specs.Text.{fault_line, build_line}
 use Rattle.fs_cli.specs.Words.{GiveBudget}
 use Rattle.fs_cli.specs.declared.outcome.Status.{Status}
 use Rattle.fs_cli.specs.declared.outcome.Status.TheVariants as status

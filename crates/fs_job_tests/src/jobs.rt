@@ -22,7 +22,7 @@ const SQUARE: [&str; 7] = [
 
 // What replaces one of its lines, numbered from 1, and the name of the result. A fault that has
 // a line has this one.
-static CHANGES: [(usize, &str, &str); 124] = [
+static CHANGES: [(usize, &str, &str); 133] = [
     (1, "Flatsurf 1", "BadHeader"),
     (1, "flatsurf 1 1", "BadHeader"),
     (1, "flatsurf 3", "BadHeader"),
@@ -143,7 +143,16 @@ static CHANGES: [(usize, &str, &str); 124] = [
     (6, "Stratum", "BadLine"),
     (6, "stratum 1", "BadLine"),
     (6, "strata", "BadLine"),
-    (6, "delaunay", "BadLine"),
+    (6, "Delaunay", "BadLine"),
+    (6, "delaunay 1", "BadLine"),
+    (6, "delauney", "BadLine"),
+    (6, "cell", "BadLine"),
+    (6, "cells 1", "BadLine"),
+    (6, "cells delaunay", "BadLine"),
+    (6, "delaunay", "read"),
+    (6, "\tdelaunay \r", "read"),
+    (6, "cells", "read"),
+    (6, "cells\t", "read"),
     (6, "stratum", "read"),
     (6, "\tstratum \r", "read"),
     (6, "won top 1", "BadLine"),

@@ -11,10 +11,11 @@ use Rattle.fs_stratum.proofs.VertexListUnique.{vertex_list_unique, genus_unique}
 use Rattle.fs_stratum.proofs.VertexListExists.{vertex_list_exists}
 use Rattle.fs_stratum.proofs.GenusExists.{genus_exists}
 use Rattle.fs_job.specs.declared.job.Command.{Command}
-use Rattle.fs_job.specs.declared.job.Command.TheVariants.{Check, Stratum, Segment}
+use Rattle.fs_job.specs.declared.job.Command.TheVariants.{Check, Stratum, Segment, Delaunay, Cells}
 use Rattle.fs_report.specs.Area.{GivesArea}
 use Rattle.fs_report.specs.Orders.{AreOrders}
-use Rattle.fs_report.specs.Text.{Answers, HasCorner, AnswersStratum, whole, overflowed, stratum_text, overflow_line}
+use Rattle.fs_report.specs.Answers.{Answers, HasCorner}
+use Rattle.fs_report.specs.Text.{AnswersStratum, whole, overflowed, stratum_text, overflow_line}
 use Rattle.fs_report.proofs.UnscaledArea.{area_unique, area_exists}
 use Rattle.fs_report.proofs.SegmentUnique.{segment_unique, segment_exists}
 use Rattle.fs_report.proofs.Descending.{descending_unique, descending_exists}
@@ -59,9 +60,13 @@ pub answer_unique : (s : GluedPolygons) (budget : ℕ) (command : Command) (m n 
 answer_unique s budget Check m n p q surface a b = (a.0 ∙ sym b.0, a.1 ∙ sym b.1)
 answer_unique s budget Stratum m n p q surface a b = stratum_unique s m n p q surface a b
 answer_unique s budget (Segment line start v) m n p q surface a b = segment_unique s budget start v m n p q a b
+answer_unique s budget Delaunay m n p q surface a b = ?
+answer_unique s budget Cells m n p q surface a b = ?
 
 -- a command has an answer, where the surface has the corner that it names
 pub answer_exists : (s : GluedPolygons) (budget : ℕ) (command : Command) → IsSurface s → HasCorner s command → ((text : List ℕ) (partial : Bool) → ¬ Answers s budget command text partial) → ⊥
 answer_exists s budget Check surface there none = none _ _ (refl, refl)
 answer_exists s budget Stratum surface there none = stratum_exists s surface.surface none
 answer_exists s budget (Segment line start v) surface there none = (let answer = segment_exists s budget start v surface there in none answer.0 answer.1 answer.2)
+answer_exists s budget Delaunay surface there none = ?
+answer_exists s budget Cells surface there none = ?

@@ -1,3 +1,5 @@
 pub mod Orders
 pub mod Area
 pub mod Text
+pub mod DelaunayText
+pub mod Answers

@@ -1,5 +1,5 @@
--- The texts of faults, of overflows, and of the answers to commands. The words of a line end before its line feed.
-use Rattle.std.specs.Prelude.{◌≡◌, ℕ, Bool, true, false, Ok, Err, None, Some, List, [], ◌∷◌, ◌++◌, length, sum_by, codes}
+-- The texts of faults, of overflows, and of the answers to `check`, `stratum` and `segment`. The words of a line end before its line feed.
+use Rattle.std.specs.Prelude.{◌≡◌, ℕ, Bool, true, false, Ok, Err, None, Some, List, [], ◌∷◌, ◌++◌, length, codes}
 use Rattle.std.specs.Fmt.{decimal}
 use Rattle.fs_fraction.specs.Fraction.{Fraction}
 use Rattle.fs_fraction.specs.Number.{spelling}
@@ -10,12 +10,9 @@ use Rattle.fs_paths.specs.Ends.{PathEnd, outside_sector, segment, corner_before_
 use Rattle.fs_gluing.specs.declared.faults.Fault.{Fault}
 use Rattle.fs_gluing.specs.declared.faults.Fault.TheVariants.{NotAscii, BadHeader, BadLine, BadNumber, BadField, TooMany, NoEnd, ZeroDirection, Wide, FewSides, NotClosed, NotConvex, TurnsTwice, NoSuchSide, GluedTwice, NotOpposite, Unglued, Apart, TooLong}
 use Rattle.fs_gluing.specs.declared.shapes.Point.{Point}
-use Rattle.fs_gluing.specs.Polygons.{HasSide}
 use Rattle.fs_gluing.specs.Surface.{GluedPolygons}
 use Rattle.fs_stratum.specs.declared.cones.Cone.{Cone}
 use Rattle.fs_stratum.specs.VertexList.{AreVertices, IsGenus}
-use Rattle.fs_job.specs.declared.job.Command.{Command}
-use Rattle.fs_job.specs.declared.job.Command.TheVariants.{Check, Stratum, Segment}
 use Rattle.fs_develop.specs.Grid.{GivesScaled}
 use Rattle.fs_develop.specs.Walks.{WalksTo, IsPathEnd}
 use Rattle.fs_job.specs.SiteText.{site_text}
@@ -153,17 +150,3 @@ pub data AnswersSegment (s : GluedPolygons) (budget : ℕ) (start : Corner) (v :
   wide : (site : Site) → GivesScaled s v (Err site) → text ≡ overflow_line (segment_words start v) site → partial ≡ true → AnswersSegment s budget start v text partial
   -- the path along it is followed
   followed : (w : PlaneVector) → GivesScaled s v (Ok (Some w)) → AnswersPath s budget start w (segment_words start v) text partial → AnswersSegment s budget start v text partial
-
--- ---- any command
-
--- the answer to a command about a surface, within a budget: this text, and whether it is in place of the whole answer
-abbrev pub Answers : GluedPolygons → ℕ → Command → List ℕ → Bool → Type 0
-Answers s budget Check text partial = (text ≡ check_line (length s.polygons) (sum_by length s.polygons)) × (partial ≡ false)
-Answers s budget Stratum text partial = AnswersStratum s text partial
-Answers s budget (Segment line start v) text partial = AnswersSegment s budget start v text partial
-
--- the surface has the corner that a command names
-abbrev pub HasCorner : GluedPolygons → Command → Type 0
-HasCorner s Check = Unit {0}
-HasCorner s Stratum = Unit {0}
-HasCorner s (Segment line start v) = HasSide s.polygons start

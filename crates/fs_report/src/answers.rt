@@ -2,7 +2,8 @@
 
 ghost use Rattle.std.specs.Prelude.{◌≡◌, ◌≤◌, length, sum_by, IfOk, string_bytes};
 ghost use Rattle.fs_job.specs.Reading.{HasDirection};
-ghost use Rattle.fs_report.specs.Text.{check_line, Answers, HasCorner};
+ghost use Rattle.fs_report.specs.Answers.{Answers, HasCorner};
+ghost use Rattle.fs_report.specs.Text.{check_line};
 
 use crate::segment::answer_segment;
 use crate::stratum::answer_stratum;
@@ -69,5 +70,6 @@ pub fn find_answer(
         }),
         Command::Stratum => answer_stratum(alloc, surface),
         Command::Segment { start, v, .. } => answer_segment(alloc, surface, *start, v, budget),
+        Command::Delaunay | Command::Cells => Err(NoMemory),
     }
 }

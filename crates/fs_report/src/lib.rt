@@ -3,6 +3,8 @@
 
 mod answers;
 mod areas;
+mod cells;
+mod delaunay;
 mod lines;
 mod segment;
 mod stratum;

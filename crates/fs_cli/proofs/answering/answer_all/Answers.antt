@@ -3,7 +3,7 @@ use Rattle.std.proofs.lemmas.Option.{slice_get-get_or}
 use Rattle.std.proofs.KnownBytes.{Appends-nil}
 use Rattle.fs_lists.proofs.All.{All-slice_get}
 use Rattle.fs_job.specs.Reading.{HasDirection}
-use Rattle.fs_report.specs.Text.{HasCorner}
+use Rattle.fs_report.specs.Answers.{HasCorner}
 use Rattle.fs_cli.proofs.CommandTexts.{done_no_fault, partial_no_fault, written_at, done_more, partial_more, broken_off, all_written}
 use Rattle.fs_cli.proofs.answering.answer_all.Goals as goal
 use Rattle.fs_cli.proofs.answering.answer_all.Goals.{in-Done, in-Partial}

@@ -1,6 +1,6 @@
 use Rattle.std.proofs.Common.{take}
 use Rattle.std.specs.List.{AllByRecursion}
-use Rattle.fs_report.specs.Text.{HasCorner}
+use Rattle.fs_report.specs.Answers.{HasCorner}
 use Rattle.fs_cli.proofs.answering.missing_corner.Given as goal
 
 -- the surface has the corners of the commands so far

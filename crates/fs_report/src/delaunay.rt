@@ -1,0 +1,84 @@
+// The answer to `delaunay`.
+
+ghost use Rattle.std.specs.Prelude.{◌≡◌, ◌+◌, ◌*◌, ◌/◌, ◌<◌, ◌++◌, IfOk, OnOk, length, string_bytes, unsigned_abs};
+ghost use Rattle.fs_gluing.specs.Triangulation.{edge_vector};
+ghost use Rattle.fs_report.specs.DelaunayText.{delaunay_line, delaunay_text, flip_line, flip_lines, vector_text, face_line, face_lines};
+
+use fs_fraction::{Frac, NoMemory, print_number};
+use fs_mesh::Mesh;
+use std::alloc::{AllocError, Global};
+
+// The lines of these flips, and of the faces after them.
+fn whole_text(alloc: Global, edges: &[u32], mesh: &Mesh<'_>) -> Result<String, NoMemory>
+    ensures { IfOk result (λ text. string_bytes text ≡ delaunay_text (unsigned_abs mesh.now.surface.den) edges.now mesh.now.triangles) }
+{
+    let mut text = first_line(alloc, edges)?;
+    add_flips(&mut text, edges)?;
+    add_faces(alloc, &mut text, mesh)?;
+    Ok(text)
+}
+
+// The line that counts the flips.
+fn first_line(alloc: Global, edges: &[u32]) -> Result<String, AllocError>
+    ensures { IfOk result (λ line. string_bytes line ≡ delaunay_line edges.now) }
+{
+    let flips = edges.len();
+    format!(in alloc; "delaunay flips {flips}\n")
+}
+
+// Adds a line for each flip.
+fn add_flips(text: &mut String, edges: &[u32]) -> Result<(), AllocError>
+    ensures { OnOk result (string_bytes text.new ≡ string_bytes text.old ++ flip_lines edges.now) }
+{
+    for edge in edges {
+        add_flip(text, *edge)?;
+    }
+    Ok(())
+}
+
+// Adds the line of a flip.
+fn add_flip(text: &mut String, edge: u32) -> Result<(), AllocError>
+    ensures { OnOk result (string_bytes text.new ≡ string_bytes text.old ++ flip_line edge) }
+{
+    write!(text, "flip {edge}\n")
+}
+
+// Adds a line for each face.
+fn add_faces(alloc: Global, text: &mut String, mesh: &Mesh<'_>) -> Result<(), NoMemory>
+    ensures { OnOk result (string_bytes text.new ≡ string_bytes text.old
+        ++ face_lines (unsigned_abs mesh.now.surface.den) mesh.now.triangles 0 (length mesh.now.triangles.vectors / 3)) }
+{
+    for f in 0..mesh.faces() {
+        add_face(alloc, text, mesh, f)?;
+    }
+    Ok(())
+}
+
+// Adds the line of face f.
+fn add_face(alloc: Global, text: &mut String, mesh: &Mesh<'_>, f: u32) -> Result<(), NoMemory>
+    requires { 3 * f + 2 < length mesh.now.triangles.vectors }
+    ensures { OnOk result (string_bytes text.new ≡ string_bytes text.old ++ face_line (unsigned_abs mesh.now.surface.den) mesh.now.triangles f) }
+{
+    // A look at the faces makes the invariant of the mesh known here.
+    let _ = mesh.faces();
+    let h = 3 * f;
+    let one = vector_text(alloc, mesh, h)?;
+    let two = vector_text(alloc, mesh, h + 1)?;
+    let three = vector_text(alloc, mesh, h + 2)?;
+    let (a, b, c) = (mesh.twin(h), mesh.twin(h + 1), mesh.twin(h + 2));
+    write!(text, "face {f} {one} {two} {three} twins {a} {b} {c}\n")?;
+    Ok(())
+}
+
+// x,y of the unscaled vector of a half-edge.
+fn vector_text(alloc: Global, mesh: &Mesh<'_>, h: u32) -> Result<String, NoMemory>
+    requires { h < length mesh.now.triangles.vectors }
+    ensures { IfOk result (λ text. string_bytes text ≡ vector_text (unsigned_abs mesh.now.surface.den) (edge_vector mesh.now.triangles h)) }
+{
+    let den = mesh.surface().den();
+    let v = mesh.vector(h);
+    let x = print_number(alloc, Frac::new(v.x, den))?;
+    let y = print_number(alloc, Frac::new(v.y, den))?;
+    let text = format!(in alloc; "{x},{y}")?;
+    Ok(text)
+}
