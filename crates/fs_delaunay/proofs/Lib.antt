@@ -1,1 +1,2 @@
 -- The proofs of fs_delaunay, by subject.
+pub mod FlipsUnique
