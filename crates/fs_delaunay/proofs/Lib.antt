@@ -1,2 +1,4 @@
 -- The proofs of fs_delaunay, by subject.
 pub mod FlipsUnique
+pub mod CheckedRunLaws
+pub mod EndsUnique
