@@ -2,3 +2,4 @@
 pub mod FlipsUnique
 pub mod CheckedRunLaws
 pub mod EndsUnique
+pub mod Marks

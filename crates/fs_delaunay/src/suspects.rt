@@ -1,6 +1,6 @@
 // Numbers of half-edges whose edges may fail, as an ordered set.
 
-ghost use Rattle.std.specs.Prelude.{◌≡◌, ◌+◌, ◌<◌, ◌≤◌, ◌^◌, true, false, length, IfOk, slice_set};
+ghost use Rattle.std.specs.Prelude.{◌≡◌, ◌+◌, ◌<◌, ◌≤◌, ◌^◌, ℕ, true, false, length, IfOk, slice_set};
 ghost use Rattle.fs_delaunay.specs.Suspects.{HasNoMark, FindsMark, AreBlocks, mark_of};
 
 use std::alloc::{AllocError, Global};
