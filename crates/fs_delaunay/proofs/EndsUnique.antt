@@ -14,15 +14,9 @@ use Rattle.fs_mesh.specs.FlippedMeshes.{IsFlipOf, flipped_vector}
 use Rattle.fs_mesh.proofs.MeshAfterFlip.{triangulation_after}
 use Rattle.fs_delaunay.specs.CheckedRuns as run
 use Rattle.fs_delaunay.specs.CheckedRuns.{Flipped, AllPass, Fails, IsReached, LeadsByChecks, EndsRun}
+use Rattle.fs_delaunay.specs.Steps.{EndsHere, all_pass, circle_overflows, flip_overflows, budget_spent}
 use Rattle.fs_delaunay.proofs.FlipsUnique.{flip_unique, flipped, is_flipped}
 use Rattle.fs_delaunay.proofs.CheckedRunLaws.{FirstStop, illegal_of_fails, not_fails_and_overflows, reached_unique, reached_not_all, first_stop}
-
--- how the run of at most n flips ends at a triangulation, after the flips of these edges, with no flip more
-pub data EndsHere (d : ℕ) (t : Triangulation) (edges : List ℕ) (n : ℕ) : Result Flipped Stop → Type 0 where
-  all_pass : length edges ≤ n → AllPass d t → EndsHere d t edges n (Ok (record { edges = edges; triangles = t }))
-  circle_overflows : (e : ℕ) (place : Place) → length edges ≤ n → IsReached d t e → edge_circle_after d t e ≡ Err place → EndsHere d t edges n (Err (Overflow (Circle (length edges) e place.0)))
-  flip_overflows : (e : ℕ) (place : Place) → length edges < n → IsReached d t e → Fails d t e → flipped_vector t e ≡ Err place → EndsHere d t edges n (Err (Overflow (Flip (length edges) e place.0)))
-  budget_spent : (e : ℕ) → length edges ≡ n → IsReached d t e → Fails d t e → EndsHere d t edges n (Err (Undecided n))
 
 -- how it ends from there, with the flips to come
 pub data EndsFrom (d : ℕ) (n : ℕ) : Triangulation → List ℕ → Result Flipped Stop → Type 0 where

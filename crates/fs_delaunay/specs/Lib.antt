@@ -3,3 +3,5 @@ pub mod Runs
 pub mod CheckedRuns
 pub mod Cells
 pub mod Suspects
+pub mod Steps
+pub mod Results

@@ -1,8 +1,17 @@
 -- Delaunay triangulations, and the run of flips that leads to one: again and again the first illegal edge is flipped.
 use Rattle.std.specs.Prelude.{◌≡◌, ℕ, ◌<◌, List, [], ◌∷◌, ◌++◌}
-use Rattle.fs_gluing.specs.Triangulation.{Triangulation, IsEdge}
+use Rattle.fs_gluing.specs.declared.triangulations.Triangles.{Triangles}
+use Rattle.fs_gluing.specs.FirstCut.{IsFirstCut}
+use Rattle.fs_gluing.specs.Surface.{GluedPolygons}
+use Rattle.fs_gluing.specs.Triangulation.{Triangulation, IsEdge, triangulation_of}
 use Rattle.fs_mesh.specs.Meshes.{IsIllegal}
 use Rattle.fs_mesh.specs.FlippedMeshes.{IsFlipOf}
+
+-- the triangulation is that of the first cut of the surface
+pub record IsFirstTriangulation (s : GluedPolygons) (t : Triangulation) : Type 0 where
+  pub triangles : Triangles
+  pub cut : IsFirstCut s triangles
+  pub same : t ≡ triangulation_of triangles
 
 -- no edge is illegal
 abbrev pub IsDelaunay : ℕ → Triangulation → Type 0
