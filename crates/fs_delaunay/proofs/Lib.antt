@@ -1,1 +1,5 @@
 -- The proofs of fs_delaunay, by subject.
+pub mod FlipsUnique
+pub mod CheckedRunLaws
+pub mod EndsUnique
+pub mod Marks

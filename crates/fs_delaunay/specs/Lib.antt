@@ -2,3 +2,6 @@
 pub mod Runs
 pub mod CheckedRuns
 pub mod Cells
+pub mod Suspects
+pub mod Steps
+pub mod Results

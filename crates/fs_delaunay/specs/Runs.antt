@@ -7,9 +7,11 @@ use Rattle.fs_gluing.specs.Triangulation.{Triangulation, IsEdge, triangulation_o
 use Rattle.fs_mesh.specs.Meshes.{IsIllegal}
 use Rattle.fs_mesh.specs.FlippedMeshes.{IsFlipOf}
 
--- the triangulation of the first cut of a surface
-abbrev pub IsFirstTriangulation : GluedPolygons → Triangulation → Type 0
-IsFirstTriangulation s t = (triangles : Triangles) × IsFirstCut s triangles × (t ≡ triangulation_of triangles)
+-- the triangulation is that of the first cut of the surface
+pub record IsFirstTriangulation (s : GluedPolygons) (t : Triangulation) : Type 0 where
+  pub triangles : Triangles
+  pub cut : IsFirstCut s triangles
+  pub same : t ≡ triangulation_of triangles
 
 -- no edge is illegal
 abbrev pub IsDelaunay : ℕ → Triangulation → Type 0

@@ -1,2 +1,7 @@
 // Delaunay triangulations by flips of illegal edges, and their cells.
 #![tactic(auto)]
+
+mod delaunay;
+mod suspects;
+
+pub use delaunay::{Delaunay, start};
