@@ -49,8 +49,7 @@ flip_line e = line_of (codes "flip " ++ decimal e)
 
 -- the lines of flips, in order
 abbrev pub flip_lines : List ℕ → List ℕ
-flip_lines [] = []
-flip_lines (e ∷ edges) = flip_line e ++ flip_lines edges
+flip_lines edges = flat_map flip_line edges
 
 -- x,y of a scaled vector, unscaled
 abbrev pub vector_text : ℕ → PlaneVector → List ℕ
@@ -91,8 +90,7 @@ cells_line cells flips = line_of (codes "cells " ++ decimal cells ++ codes " fli
 
 -- numbers with a space before each
 abbrev pub spaced_numbers : List ℕ → List ℕ
-spaced_numbers [] = []
-spaced_numbers (n ∷ ns) = (codes " " ++ decimal n) ++ spaced_numbers ns
+spaced_numbers numbers = flat_map (λ n. codes " " ++ decimal n) numbers
 
 -- the line of cell c: its faces
 abbrev pub cell_line : ℕ → List ℕ → List ℕ

@@ -1,6 +1,7 @@
 // The answer to `cells`.
 
-ghost use Rattle.std.specs.Prelude.{◌≡◌, ◌++◌, IfOk, OnOk, length, string_bytes};
+ghost use Rattle.std.specs.Prelude.{◌≡◌, ◌++◌, IfOk, OnOk, codes, length, string_bytes};
+ghost use Rattle.std.specs.Fmt.{decimal};
 ghost use Rattle.fs_report.specs.DelaunayText.{cells_line, spaced_numbers, cell_line, cell_lines};
 
 use fs_gluing::Sequence;
@@ -46,7 +47,14 @@ fn add_numbers(text: &mut String, numbers: &[u32]) -> Result<(), AllocError>
     ensures { OnOk result (string_bytes text.new ≡ string_bytes text.old ++ spaced_numbers numbers.now) }
 {
     for number in numbers {
-        write!(text, " {number}")?;
+        add_number(text, *number)?;
     }
     Ok(())
+}
+
+// Adds a number after a space.
+fn add_number(text: &mut String, number: u32) -> Result<(), AllocError>
+    ensures { OnOk result (string_bytes text.new ≡ string_bytes text.old ++ (codes " " ++ decimal number)) }
+{
+    write!(text, " {number}")
 }

@@ -1,11 +1,12 @@
 // The answer to `delaunay`.
 
-ghost use Rattle.std.specs.Prelude.{◌≡◌, ◌+◌, ◌*◌, ◌/◌, ◌<◌, ◌++◌, IfOk, OnOk, length, string_bytes, unsigned_abs};
+ghost use Rattle.std.specs.Prelude.{◌≡◌, ◌+◌, ◌*◌, ◌/◌, ◌<◌, ◌<ℤ◌, ◌++◌, IfOk, OnOk, pos, length, string_bytes, unsigned_abs};
 ghost use Rattle.fs_gluing.specs.Triangulation.{edge_vector};
-ghost use Rattle.fs_report.specs.DelaunayText.{delaunay_line, delaunay_text, flip_line, flip_lines, vector_text, face_line, face_lines};
+ghost use Rattle.fs_report.specs.DelaunayText.{delaunay_line, delaunay_text, flip_line, flip_lines, vector_text, face_vectors, face_twins, face_line, face_lines};
 
 use fs_fraction::{Frac, NoMemory, print_number};
 use fs_mesh::Mesh;
+use fs_plane::V2;
 use std::alloc::{AllocError, Global};
 
 // The lines of these flips, and of the faces after them.
@@ -59,15 +60,37 @@ fn add_face(alloc: Global, text: &mut String, mesh: &Mesh<'_>, f: u32) -> Result
     requires { 3 * f + 2 < length mesh.now.triangles.vectors }
     ensures { OnOk result (string_bytes text.new ≡ string_bytes text.old ++ face_line (unsigned_abs mesh.now.surface.den) mesh.now.triangles f) }
 {
+    let vectors = face_vectors(alloc, mesh, f)?;
+    let twins = face_twins(alloc, mesh, f)?;
+    write!(text, "face {f} {vectors} twins {twins}\n")?;
+    Ok(())
+}
+
+// The unscaled vectors of the half-edges of face f.
+fn face_vectors(alloc: Global, mesh: &Mesh<'_>, f: u32) -> Result<String, NoMemory>
+    requires { 3 * f + 2 < length mesh.now.triangles.vectors }
+    ensures { IfOk result (λ text. string_bytes text ≡ face_vectors (unsigned_abs mesh.now.surface.den) mesh.now.triangles f) }
+{
     // A look at the faces makes the invariant of the mesh known here.
     let _ = mesh.faces();
-    let h = 3 * f;
-    let one = vector_text(alloc, mesh, h)?;
-    let two = vector_text(alloc, mesh, h + 1)?;
-    let three = vector_text(alloc, mesh, h + 2)?;
-    let (a, b, c) = (mesh.twin(h), mesh.twin(h + 1), mesh.twin(h + 2));
-    write!(text, "face {f} {one} {two} {three} twins {a} {b} {c}\n")?;
-    Ok(())
+    let one = vector_text(alloc, mesh, 3 * f)?;
+    let two = vector_text(alloc, mesh, 3 * f + 1)?;
+    let three = vector_text(alloc, mesh, 3 * f + 2)?;
+    let text = format!(in alloc; "{one} {two} {three}")?;
+    Ok(text)
+}
+
+// The twins of the half-edges of face f.
+fn face_twins(alloc: Global, mesh: &Mesh<'_>, f: u32) -> Result<String, AllocError>
+    requires { 3 * f + 2 < length mesh.now.triangles.vectors }
+    ensures { IfOk result (λ text. string_bytes text ≡ face_twins mesh.now.triangles f) }
+{
+    // A look at the faces makes the invariant of the mesh known here.
+    let _ = mesh.faces();
+    let one = mesh.twin(3 * f);
+    let two = mesh.twin(3 * f + 1);
+    let three = mesh.twin(3 * f + 2);
+    format!(in alloc; "{one} {two} {three}")
 }
 
 // x,y of the unscaled vector of a half-edge.
@@ -75,8 +98,14 @@ fn vector_text(alloc: Global, mesh: &Mesh<'_>, h: u32) -> Result<String, NoMemor
     requires { h < length mesh.now.triangles.vectors }
     ensures { IfOk result (λ text. string_bytes text ≡ vector_text (unsigned_abs mesh.now.surface.den) (edge_vector mesh.now.triangles h)) }
 {
-    let den = mesh.surface().den();
-    let v = mesh.vector(h);
+    unscaled_text(alloc, mesh.vector(h), mesh.surface().den())
+}
+
+// x,y of a vector over a denominator.
+fn unscaled_text(alloc: Global, v: V2, den: i128) -> Result<String, NoMemory>
+    requires { pos 0 <ℤ den }
+    ensures { IfOk result (λ text. string_bytes text ≡ vector_text (unsigned_abs den) v) }
+{
     let x = print_number(alloc, Frac::new(v.x, den))?;
     let y = print_number(alloc, Frac::new(v.y, den))?;
     let text = format!(in alloc; "{x},{y}")?;
