@@ -18,7 +18,7 @@ module _ (law : JobLaw) where
       (λ test first. none _ _ (not_built draft test few reads first refl refl))
       (λ all.
       let s = surface_of_job bytes draft reads all in
-      commands_exist s.0 budget s.1 draft.commands (λ output result texts. none _ _ (answered draft s.0 few reads s.1 s.2 all texts))))
+      commands_exist s.0 budget s.1 s.2.straight draft.commands (λ output result texts. none _ _ (answered draft s.0 few reads s.1 s.2 all texts))))
       (λ fault at. none _ _ (no_job fault few at refl refl)))
     where
       by_length : ¬ (length bytes ≤ most_bytes) → ⊥

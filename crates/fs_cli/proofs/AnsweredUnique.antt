@@ -85,4 +85,4 @@ module _ (law : JobLaw) (budget : ℕ) (bytes : List ℕ) where
   answered_unique o o' r r' (too_long a s e) b = let just = only_long budget bytes a o' r' b in (e ∙ sym just.0, s ∙ sym just.1)
   answered_unique o o' r r' (no_job n a fault s e) b = let just = only_fault n a fault o' r' b in (e ∙ sym just.0, s ∙ sym just.1)
   answered_unique o o' r r' (not_built j k a reads first s e) b = let just = only_stop j k a reads first o' r' b in (e ∙ sym just.0, s ∙ sym just.1)
-  answered_unique o o' r r' (answered j u a reads surface shape all texts) b = commands_unique u budget surface j.commands o o' r r' texts (only_texts j u a reads shape all o' r' b)
+  answered_unique o o' r r' (answered j u a reads surface shape all texts) b = commands_unique u budget surface shape.straight j.commands o o' r r' texts (only_texts j u a reads shape all o' r' b)

@@ -115,29 +115,29 @@ module _ (result : Status) (held held' : Option (List ℕ)) (faults faults' : �
   writes_commands s budget commands commands' e = subst (λ (cs : List Command). Writes (AnswersCommands s budget cs) result held held' faults faults') e
 
   -- commands of which one names a corner that isn't there
-  pub writes_missing : (s : GluedPolygons) (budget : ℕ) (commands : List Command) (command : Command) (line : ℕ) → IsSurface s → IsFirstWithout (HasCorner s) commands command → line ≡ stated_line command
+  pub writes_missing : (s : GluedPolygons) (budget : ℕ) (commands : List Command) (command : Command) (line : ℕ) → IsSurface s → s.straight ≡ false → IsFirstWithout (HasCorner s) commands command → line ≡ stated_line command
       → Writes (IsThisText (fault_line (NoSuchSide line)) status.Refused) result held held' faults faults' → Writes (AnswersCommands s budget commands) result held held' faults faults'
-  writes_missing s budget commands command line surface first is =
+  writes_missing s budget commands command line surface strict first is =
       let means : AnswersCommands s budget commands (fault_line (NoSuchSide line)) status.Refused =
       no_such_corner command first refl (ap (λ (n : ℕ). fault_line (NoSuchSide n)) is) in
       writes_just (AnswersCommands s budget commands) (fault_line (NoSuchSide line)) status.Refused means
-      (λ output r other. commands_unique s budget surface commands output (fault_line (NoSuchSide line)) r status.Refused other means)
+      (λ output r other. commands_unique s budget surface strict commands output (fault_line (NoSuchSide line)) r status.Refused other means)
 
   -- commands that are all answered
-  pub writes_each : (s : GluedPolygons) (budget : ℕ) (commands : List Command) → IsSurface s → AllByRecursion (HasCorner s) commands
+  pub writes_each : (s : GluedPolygons) (budget : ℕ) (commands : List Command) → IsSurface s → s.straight ≡ false → AllByRecursion (HasCorner s) commands
       → Writes (HasStatus (AnswersAll s budget commands)) result held held' faults faults' → Writes (AnswersCommands s budget commands) result held held' faults faults'
-  writes_each s budget commands surface all =
+  writes_each s budget commands surface strict all =
       writes_meant (HasStatus (AnswersAll s budget commands)) (AnswersCommands s budget commands)
       (λ output r means. each_answered means.0 all means.1 means.2)
-      (λ output r means. only_each s budget surface commands all output r means)
+      (λ output r means. only_each s budget surface strict commands all output r means)
 
   -- the text of a command
-  pub writes_command : (s : GluedPolygons) (budget : ℕ) (command : Command) (text : List ℕ) (partial : Bool) (meant : Status) → IsSurface s → Answers s budget command text partial → meant ≡ status_of partial
+  pub writes_command : (s : GluedPolygons) (budget : ℕ) (command : Command) (text : List ℕ) (partial : Bool) (meant : Status) → IsSurface s → s.straight ≡ false → Answers s budget command text partial → meant ≡ status_of partial
       → Writes (IsThisText text meant) result held held' faults faults' → Writes (HasStatus (Answers s budget command)) result held held' faults faults'
-  writes_command s budget command text partial meant surface answers is =
+  writes_command s budget command text partial meant surface strict answers is =
       writes_just (HasStatus (Answers s budget command)) text meant (partial, answers, is)
       (λ output r means.
-      let one = answer_unique s budget command output text means.0 partial surface.surface means.1 answers in
+      let one = answer_unique s budget command output text means.0 partial surface strict means.1 answers in
       (one.0, means.2 ∙ (ap status_of one.1 ∙ sym is)))
 
   module _ (law : JobLaw) (budget : ℕ) (bytes : List ℕ) (few : length bytes ≤ most_bytes) where

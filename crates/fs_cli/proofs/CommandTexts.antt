@@ -58,14 +58,14 @@ partial_no_fault partial e = cc
 abbrev pub AreAnswered : GluedPolygons → ℕ → List Command → ℕ → Status → Option (List ℕ) → Option (List ℕ) → Type 0
 AreAnswered s budget commands i so_far held held' = (text : List ℕ) × HasStatus (AnswersAll s budget (take i commands)) text so_far × Appends held held' text
 
-module _ (s : GluedPolygons) (budget : ℕ) (surface : IsSurface s) where
+module _ (s : GluedPolygons) (budget : ℕ) (surface : IsSurface s) (strict : s.straight ≡ false) where
   -- ---- commands have one text, and one way to be partial
 
   -- commands have one text at most, partial or whole
   pub answers_all_unique : (commands : List Command) (m n : List ℕ) (p q : Bool) → AnswersAll s budget commands m p → AnswersAll s budget commands n q → (m ≡ n) × (p ≡ q)
   answers_all_unique [] m n p q a b = (a.0 ∙ sym b.0, a.1 ∙ sym b.1)
   answers_all_unique (command ∷ commands) m n p q a b =
-      let one = answer_unique s budget command a.prefix b.prefix a.prefix_partial b.prefix_partial surface.surface a.one b.one in
+      let one = answer_unique s budget command a.prefix b.prefix a.prefix_partial b.prefix_partial surface strict a.one b.one in
       let other = answers_all_unique commands a.rest b.rest a.rest_partial b.rest_partial a.other b.other in
       (cc, cc)
 
@@ -73,7 +73,7 @@ module _ (s : GluedPolygons) (budget : ℕ) (surface : IsSurface s) where
   pub answers_all_exists : (commands : List Command) → AllByRecursion (HasCorner s) commands → ((output : List ℕ) (partial : Bool) → ¬ AnswersAll s budget commands output partial) → ⊥
   answers_all_exists [] all none = none [] false (refl, refl)
   answers_all_exists (command ∷ commands) all none =
-      answer_exists s budget command surface all.0 (λ m p one. answers_all_exists commands all.1 (λ n q other. none (m ++ n) (p || q)
+      answer_exists s budget command surface strict all.0 (λ m p one. answers_all_exists commands all.1 (λ n q other. none (m ++ n) (p || q)
       (record { prefix = m; rest = n; prefix_partial = p; rest_partial = q; one = one; other = other; whole = refl; kind = refl })))
 
   -- commands have one answer at most
@@ -134,7 +134,7 @@ module _ (s : GluedPolygons) (budget : ℕ) (surface : IsSurface s) where
               ∙ ap (λ (text : List ℕ). (text ++ prefix) ++ (this.0 ++ b.rest)) (sym a.0))),
         )
     begin_all (first ∷ commands) m output p q a b =
-        let same = answer_unique s budget first b.prefix a.prefix b.prefix_partial a.prefix_partial surface.surface b.one a.one in
+        let same = answer_unique s budget first b.prefix a.prefix b.prefix_partial a.prefix_partial surface strict b.one a.one in
         let more = begin_all commands a.rest b.rest a.rest_partial b.rest_partial a.other b.other in (
           more.0,
           b.whole

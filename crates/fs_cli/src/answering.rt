@@ -1,6 +1,6 @@
 // Answers written into a sink.
 
-ghost use Rattle.std.specs.Prelude.{◌≡◌, ◌≤◌, ◌∷◌, [], MatchOption};
+ghost use Rattle.std.specs.Prelude.{◌≡◌, ◌≤◌, ◌∷◌, [], false, MatchOption};
 ghost use Rattle.std.specs.List.{AllByRecursion};
 ghost use Rattle.fs_lists.specs.First.{IsFirstWithout};
 ghost use Rattle.fs_gluing.specs.Surface.{IsSurface};
@@ -60,6 +60,7 @@ fn answer_one<O: Sink>(
     out: &mut O,
 ) -> Status
     requires surface { IsSurface surface.now }
+    requires strict { surface.now.straight ≡ false }
     requires corner { HasCorner surface.now command.now }
     requires direction { HasDirection command.now }
     requires least { 1 ≤ budget }
@@ -99,7 +100,7 @@ fn line_without_corner(surface: &Surface, command: &Command) -> Option<u32>
         (λ line. (¬ HasCorner surface.now command.now) × (line ≡ stated_line command.now)) }
 {
     match command {
-        Command::Check | Command::Stratum => None,
+        Command::Check | Command::Stratum | Command::Delaunay | Command::Cells => None,
         Command::Segment { line, start, .. } => {
             if surface.has(*start) {
                 None
@@ -119,6 +120,7 @@ pub(crate) fn answer_commands<O: Sink>(
     out: &mut O,
 ) -> Status
     requires surface { IsSurface surface.now }
+    requires strict { surface.now.straight ≡ false }
     requires directions { AllByRecursion HasDirection commands.now }
     requires least { 1 ≤ budget }
     requires most { budget ≤ most_budget }
@@ -141,6 +143,7 @@ fn answer_all<O: Sink>(
     out: &mut O,
 ) -> Status
     requires surface { IsSurface surface.now }
+    requires strict { surface.now.straight ≡ false }
     requires corners { AllByRecursion (HasCorner surface.now) commands.now }
     requires directions { AllByRecursion HasDirection commands.now }
     requires least { 1 ≤ budget }

@@ -1,5 +1,8 @@
 -- The proofs of fs_delaunay, by subject.
 pub mod FlipsUnique
+pub mod AscendingLists
+pub mod CellListUnique
+pub mod CellListExists
 pub mod CheckedRunLaws
 pub mod EndsUnique
 pub mod Marks

@@ -2,6 +2,8 @@
 #![tactic(auto)]
 
 #[cfg(test)]
+mod delaunay;
+#[cfg(test)]
 mod jobs;
 #[cfg(test)]
 mod running;

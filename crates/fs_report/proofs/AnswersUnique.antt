@@ -1,5 +1,5 @@
--- A command has one answer about a surface, and no other.
-use Rattle.std.proofs.Common.{◌≡◌, ℕ, ◌-◌, Bool, Result, Ok, Err, List, length, map, refl, sym, ap, ◌∙◌, subst}
+-- A command has one answer about a surface without straight corners, and no other.
+use Rattle.std.proofs.Common.{◌≡◌, ℕ, ◌-◌, Bool, false, Result, Ok, Err, List, length, map, refl, sym, ap, ◌∙◌, subst}
 use Rattle.std.specs.Prelude.{codes}
 use Rattle.fs_lists.proofs.Results.{ok_equal, err_equal, ok_not_err}
 use Rattle.fs_fraction.specs.Fraction.{Fraction}
@@ -18,6 +18,7 @@ use Rattle.fs_report.specs.Answers.{Answers, HasCorner}
 use Rattle.fs_report.specs.Text.{AnswersStratum, whole, overflowed, stratum_text, overflow_line}
 use Rattle.fs_report.proofs.UnscaledArea.{area_unique, area_exists}
 use Rattle.fs_report.proofs.SegmentUnique.{segment_unique, segment_exists}
+use Rattle.fs_report.proofs.DelaunayUnique.{delaunay_unique, delaunay_exists, cells_unique, cells_exist}
 use Rattle.fs_report.proofs.Descending.{descending_unique, descending_exists}
 
 -- ---- the stratum
@@ -56,17 +57,17 @@ stratum_exists s surface none = area_exists s by_area
 -- ---- each command
 
 -- a command has one answer at most
-pub answer_unique : (s : GluedPolygons) (budget : ℕ) (command : Command) (m n : List ℕ) (p q : Bool) → IsTranslationSurface s → Answers s budget command m p → Answers s budget command n q → (m ≡ n) × (p ≡ q)
-answer_unique s budget Check m n p q surface a b = (a.0 ∙ sym b.0, a.1 ∙ sym b.1)
-answer_unique s budget Stratum m n p q surface a b = stratum_unique s m n p q surface a b
-answer_unique s budget (Segment line start v) m n p q surface a b = segment_unique s budget start v m n p q a b
-answer_unique s budget Delaunay m n p q surface a b = ?
-answer_unique s budget Cells m n p q surface a b = ?
+pub answer_unique : (s : GluedPolygons) (budget : ℕ) (command : Command) (m n : List ℕ) (p q : Bool) → IsSurface s → s.straight ≡ false → Answers s budget command m p → Answers s budget command n q → (m ≡ n) × (p ≡ q)
+answer_unique s budget Check m n p q surface strict a b = (a.0 ∙ sym b.0, a.1 ∙ sym b.1)
+answer_unique s budget Stratum m n p q surface strict a b = stratum_unique s m n p q surface.surface a b
+answer_unique s budget (Segment line start v) m n p q surface strict a b = segment_unique s budget start v m n p q a b
+answer_unique s budget Delaunay m n p q surface strict a b = delaunay_unique s budget surface strict m n p q a b
+answer_unique s budget Cells m n p q surface strict a b = cells_unique s budget surface strict m n p q a b
 
 -- a command has an answer, where the surface has the corner that it names
-pub answer_exists : (s : GluedPolygons) (budget : ℕ) (command : Command) → IsSurface s → HasCorner s command → ((text : List ℕ) (partial : Bool) → ¬ Answers s budget command text partial) → ⊥
-answer_exists s budget Check surface there none = none _ _ (refl, refl)
-answer_exists s budget Stratum surface there none = stratum_exists s surface.surface none
-answer_exists s budget (Segment line start v) surface there none = (let answer = segment_exists s budget start v surface there in none answer.0 answer.1 answer.2)
-answer_exists s budget Delaunay surface there none = ?
-answer_exists s budget Cells surface there none = ?
+pub answer_exists : (s : GluedPolygons) (budget : ℕ) (command : Command) → IsSurface s → s.straight ≡ false → HasCorner s command → ((text : List ℕ) (partial : Bool) → ¬ Answers s budget command text partial) → ⊥
+answer_exists s budget Check surface strict there none = none _ _ (refl, refl)
+answer_exists s budget Stratum surface strict there none = stratum_exists s surface.surface none
+answer_exists s budget (Segment line start v) surface strict there none = (let answer = segment_exists s budget start v surface there in none answer.0 answer.1 answer.2)
+answer_exists s budget Delaunay surface strict there none = (let answer = delaunay_exists s budget surface strict in none answer.0 answer.1 answer.2)
+answer_exists s budget Cells surface strict there none = cells_exist s budget surface strict none

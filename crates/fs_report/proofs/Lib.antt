@@ -3,6 +3,7 @@ pub mod Descending
 pub mod SortedOrders
 pub mod ListTexts
 pub mod DelaunayTexts
+pub mod DelaunayUnique
 pub mod UnscaledArea
 pub mod StratumText
 pub mod AnswersUnique

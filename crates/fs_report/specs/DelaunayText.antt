@@ -5,7 +5,8 @@ use Rattle.std.specs.List.{flat_map, range_with_len}
 use Rattle.fs_fraction.specs.Fraction.{reduced}
 use Rattle.fs_fraction.specs.Number.{spelling}
 use Rattle.fs_plane.specs.declared.sites.Site.{Site}
-use Rattle.fs_plane.specs.declared.sites.Stop.TheVariants.{Undecided, Overflow}
+use Rattle.fs_plane.specs.declared.sites.Stop.{Stop}
+use Rattle.fs_plane.specs.declared.sites.Stop.TheVariants.{Undecided, Overflow, NoMemory}
 use Rattle.fs_plane.specs.Vector.{PlaneVector}
 use Rattle.fs_gluing.specs.Surface.{GluedPolygons}
 use Rattle.fs_gluing.specs.Triangulation.{Triangulation, IsCutFrom, edge_vector, edge_twin}
@@ -27,6 +28,12 @@ pub record IsDelaunayOf (s : GluedPolygons) (budget : ℕ) (edges : List ℕ) (t
 -- the budget of flips is spent before the triangulation is a Delaunay one
 abbrev pub undecided_line : List ℕ → ℕ → List ℕ
 undecided_line words budget = line_of (words ++ codes " undecided flips " ++ decimal budget)
+
+-- the line, after these words, of a run that stops so; where memory runs out there is none
+abbrev pub IsStopText : Stop → List ℕ → List ℕ → Bool → Type 0
+IsStopText (Overflow site) words text partial = (text ≡ overflow_line words site) × (partial ≡ true)
+IsStopText (Undecided n) words text partial = (text ≡ undecided_line words n) × (partial ≡ true)
+IsStopText NoMemory words text partial = ⊥
 
 -- the answer, after these words, where the run leads to no Delaunay triangulation
 pub data AnswersStopped (s : GluedPolygons) (budget : ℕ) (words text : List ℕ) (partial : Bool) : Type 0 where

@@ -1,10 +1,12 @@
 // Answers to commands.
 
-ghost use Rattle.std.specs.Prelude.{◌≡◌, ◌≤◌, length, sum_by, IfOk, string_bytes};
+ghost use Rattle.std.specs.Prelude.{◌≡◌, ◌≤◌, false, length, sum_by, IfOk, string_bytes};
 ghost use Rattle.fs_job.specs.Reading.{HasDirection};
 ghost use Rattle.fs_report.specs.Answers.{Answers, HasCorner};
 ghost use Rattle.fs_report.specs.Text.{check_line};
 
+use crate::cells::answer_cells;
+use crate::delaunay::answer_delaunay;
 use crate::segment::answer_segment;
 use crate::stratum::answer_stratum;
 use fs_fraction::NoMemory;
@@ -49,8 +51,9 @@ fn check_line(alloc: Global, surface: &Surface) -> Result<String, NoMemory>
     Ok(line)
 }
 
-/// The answer to a command about a surface, within a budget of 1 to 1,000,000 steps: `segment` crosses at most so many
-/// sides. The corner of a `segment` exists, and its vector isn't 0,0.
+/// The answer to a command about a surface without straight corners, within a budget of 1 to 1,000,000 steps: `segment`
+/// crosses at most so many sides, `delaunay` and `cells` flip at most so many edges. The corner of a `segment` exists,
+/// and its vector isn't 0,0.
 pub fn find_answer(
     alloc: Global,
     surface: &Surface,
@@ -59,6 +62,7 @@ pub fn find_answer(
 ) -> Result<Answer, NoMemory>
     requires least { 1 ≤ budget }
     requires most { budget ≤ 1000000 }
+    requires strict { surface.now.straight ≡ false }
     requires corner { HasCorner surface.now command.now }
     requires direction { HasDirection command.now }
     ensures { IfOk result (λ answer. Answers surface.now budget command.now (string_bytes answer.text) answer.partial) }
@@ -70,6 +74,7 @@ pub fn find_answer(
         }),
         Command::Stratum => answer_stratum(alloc, surface),
         Command::Segment { start, v, .. } => answer_segment(alloc, surface, *start, v, budget),
-        Command::Delaunay | Command::Cells => Err(NoMemory),
+        Command::Delaunay => answer_delaunay(alloc, surface, budget),
+        Command::Cells => answer_cells(alloc, surface, budget),
     }
 }

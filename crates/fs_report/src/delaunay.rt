@@ -1,18 +1,68 @@
 // The answer to `delaunay`.
 
-ghost use Rattle.std.specs.Prelude.{◌≡◌, ◌+◌, ◌*◌, ◌/◌, ◌<◌, ◌<ℤ◌, ◌++◌, IfOk, OnOk, pos, length, string_bytes, unsigned_abs};
+ghost use Rattle.std.specs.Prelude.{◌≡◌, ◌+◌, ◌*◌, ◌/◌, ◌<◌, ◌≤◌, ◌<ℤ◌, ◌++◌, false, IfOk, OnOk, pos, length, string_bytes, unsigned_abs};
 ghost use Rattle.fs_gluing.specs.Triangulation.{edge_vector};
-ghost use Rattle.fs_report.specs.DelaunayText.{delaunay_line, delaunay_text, flip_line, flip_lines, vector_text, face_vectors, face_twins, face_line, face_lines};
+ghost use Rattle.fs_mesh.specs.Meshes.{IsMesh};
+ghost use Rattle.fs_report.specs.DelaunayText.{AnswersDelaunay, IsStopText, undecided_line, delaunay_line, delaunay_text, flip_line, flip_lines, vector_text, face_vectors, face_twins, face_line, face_lines};
 
+use crate::answers::Answer;
+use crate::lines::overflow_line;
+use fs_delaunay::{Delaunay, find_delaunay, start};
 use fs_fraction::{Frac, NoMemory, print_number};
+use fs_gluing::Surface;
 use fs_mesh::Mesh;
-use fs_plane::V2;
+use fs_plane::{Stop, V2};
 use std::alloc::{AllocError, Global};
 
-// The lines of these flips, and of the faces after them.
-fn whole_text(alloc: Global, edges: &[u32], mesh: &Mesh<'_>) -> Result<String, NoMemory>
-    ensures { IfOk result (λ text. string_bytes text ≡ delaunay_text (unsigned_abs mesh.now.surface.den) edges.now mesh.now.triangles) }
+// The answer to `delaunay`, within a budget of flips.
+pub fn answer_delaunay(alloc: Global, surface: &Surface, budget: u32) -> Result<Answer, NoMemory>
+    requires strict { surface.now.straight ≡ false }
+    requires most { budget ≤ 1000000 }
+    ensures { IfOk result (λ answer. AnswersDelaunay surface.now budget (string_bytes answer.text) answer.partial) }
 {
+    let mesh = start(alloc, surface)?;
+    match find_delaunay(alloc, mesh, budget) {
+        Ok(delaunay) => Ok(Answer {
+            text: whole_text(alloc, &delaunay)?,
+            partial: false,
+        }),
+        Err(stop) => stopped(alloc, "delaunay", stop),
+    }
+}
+
+// The answer, after these words, where the run leads to no Delaunay triangulation.
+pub fn stopped(alloc: Global, words: &str, stop: Stop) -> Result<Answer, NoMemory>
+    ensures { IfOk result (λ answer. IsStopText stop words.now (string_bytes answer.text) answer.partial) }
+{
+    match stop {
+        Stop::Overflow(site) => Ok(Answer {
+            text: overflow_line(alloc, words, &site)?,
+            partial: true,
+        }),
+        Stop::Undecided(flips) => Ok(Answer {
+            text: undecided_line(alloc, words, flips)?,
+            partial: true,
+        }),
+        Stop::NoMemory => Err(NoMemory),
+    }
+}
+
+// The line of a budget of flips that is spent.
+fn undecided_line(alloc: Global, words: &str, flips: u32) -> Result<String, AllocError>
+    ensures { IfOk result (λ line. string_bytes line ≡ undecided_line words.now flips) }
+{
+    format!(in alloc; "{words} undecided flips {flips}\n")
+}
+
+// The lines of the flips, and of the faces after them.
+fn whole_text(alloc: Global, delaunay: &Delaunay<'_>) -> Result<String, NoMemory>
+    ensures text { IfOk result (λ text. string_bytes text ≡ delaunay_text (unsigned_abs delaunay.now.mesh.surface.den) delaunay.now.edges delaunay.now.mesh.triangles) }
+    ensures mesh { IsMesh delaunay.now.mesh }
+{
+    let edges = delaunay.edges().as_slice();
+    let mesh = delaunay.mesh();
+    // A look at the faces makes the invariant of the mesh known here.
+    let _ = mesh.faces();
     let mut text = first_line(alloc, edges)?;
     add_flips(&mut text, edges)?;
     add_faces(alloc, &mut text, mesh)?;

@@ -6,6 +6,7 @@ pub mod WayVectors
 pub mod FaceBases
 pub mod Added
 pub mod FirstCutLaws
+pub mod FirstCutUnique
 pub mod FaceNumbers
 pub mod FaceCounts
 pub mod StrictPolygons

@@ -21,13 +21,13 @@ answer_one-requires-clause-direction g c = All-slice_get HasDirection c.args.com
 
 pub returns-in_default : goal.returns-in_default
 returns-in_default g c =
-    broken_off c.args.surface.now c.args.budget c.requires.surface c.args.commands.now c.loop-command.command-index c.command-item.result c.loop-command-test.true _ _ _ c.answer_one.result _ _ _
-    (written_at c.args.surface.now c.args.budget c.requires.surface c.args.commands.now c.loop-command.command-index c.command-item.result c.answer_one.result _ _ _ _ c.command-item.is c.answer_one.ensures)
+    broken_off c.args.surface.now c.args.budget c.requires.surface c.requires.strict c.args.commands.now c.loop-command.command-index c.command-item.result c.loop-command-test.true _ _ _ c.answer_one.result _ _ _
+    (written_at c.args.surface.now c.args.budget c.requires.surface c.requires.strict c.args.commands.now c.loop-command.command-index c.command-item.result c.answer_one.result _ _ _ _ c.command-item.is c.answer_one.ensures)
     c.loop-command.invariant.written _ c.loop-command.invariant.kept c.in_default.not-Done c.in_default.not-Partial
 
 pub returns : goal.returns
 returns g c =
-    all_written c.args.surface.now c.args.budget c.requires.surface c.args.commands.now c.loop-command.command-index _ _ c.loop-command.status _ _ c.loop-command-test.false
+    all_written c.args.surface.now c.args.budget c.requires.surface c.requires.strict c.args.commands.now c.loop-command.command-index _ _ c.loop-command.status _ _ c.loop-command-test.false
     c.loop-command.invariant.written c.loop-command.invariant.kept
 
 pub loop-command-preserved : goal.loop-command-preserved
@@ -37,14 +37,14 @@ loop-command-preserved g c =
     let i = c.loop-command.command-index in
     let result = c.answer_one.result in
     let same = c.loop-command.invariant.kept in
-    let wrote = written_at s c.args.budget c.requires.surface commands i c.command-item.result result _ _ _ _ c.command-item.is c.answer_one.ensures in
+    let wrote = written_at s c.args.budget c.requires.surface c.requires.strict commands i c.command-item.result result _ _ _ _ c.command-item.is c.answer_one.ensures in
     elim c.match-answer_one.branch [
       | in-Done w ↦ record {
-        written = done_more s c.args.budget c.requires.surface commands i c.command-item.result c.loop-command-test.true _ _ _ result _ _ _ wrote c.loop-command.invariant.written _ w.in-Done.is w.status-is;
+        written = done_more s c.args.budget c.requires.surface c.requires.strict commands i c.command-item.result c.loop-command-test.true _ _ _ result _ _ _ wrote c.loop-command.invariant.written _ w.in-Done.is w.status-is;
         kept = c.answer_one.ensures.kept (done_no_fault w.in-Done.is) ∙ same;
       }
       | in-Partial w ↦ record {
-        written = partial_more s c.args.budget c.requires.surface commands i c.command-item.result c.loop-command-test.true _ _ _ result _ _ _ wrote c.loop-command.invariant.written _ w.in-Partial.is w.status-is;
+        written = partial_more s c.args.budget c.requires.surface c.requires.strict commands i c.command-item.result c.loop-command-test.true _ _ _ result _ _ _ wrote c.loop-command.invariant.written _ w.in-Partial.is w.status-is;
         kept = c.answer_one.ensures.kept (partial_no_fault w.in-Partial.is) ∙ same;
       }
     ]

@@ -32,3 +32,8 @@ returns-in-Err-Overflow g c =
     let judged = subst (λ (shape : Shape). IsBuildResult c.in-Ok.job.field.d shape (Err c.in-Err-Overflow.field-0)) (c.form_shape.ensures ∙ shape_of_draft c.in-Ok.job c.in-Ok.ensures.unmarked) c.in-Err-Overflow.ensures.outcome in
     writes_stop _ _ _ _ _ law c.args.budget c.args.bytes.now c.requires.few (job_draft c.in-Ok.job) c.in-Err-Overflow.field-0 (stops.Overflow c.in-Err-Overflow.site) c.in-Err-Overflow.field-0-is
     c.in-Ok.ensures.job judged (λ e. cc e) c.stop_at.ensures
+
+pub answer_commands-requires-clause-strict : goal.answer_commands-requires-clause-strict
+answer_commands-requires-clause-strict g c =
+    let judged = subst (λ (shape : Shape). IsBuildResult c.in-Ok.job.field.d shape (Ok c.in-Ok-build.surface)) (c.form_shape.ensures ∙ shape_of_draft c.in-Ok.job c.in-Ok.ensures.unmarked) c.in-Ok-build.ensures.outcome in
+    judged.1.straight
