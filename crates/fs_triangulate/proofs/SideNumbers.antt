@@ -15,7 +15,7 @@ use Rattle.fs_triangulate.proofs.StrictPolygons.{corner_after-next, corner_after
 pub along_from_first : (b i t : ℕ) → half_edge_along b (record { polygon = i; from = 0; to = t + 1 }) ≡ 3 * (b + t) + 0
 along_from_first b i t = let e : 3 * (b + (t + 1) - 1) ≡ 3 * (b + t) + 0 = omega arith in e
 
-along_between : (b i t : ℕ) → half_edge_along b (record { polygon = i; from = t + 1; to = t + 2 }) ≡ 3 * (b + t) + 1
+pub along_between : (b i t : ℕ) → half_edge_along b (record { polygon = i; from = t + 1; to = t + 2 }) ≡ 3 * (b + t) + 1
 along_between b i t = grind (arith, nat_tests)
 
 pub along_to_first : (b i t : ℕ) → half_edge_along b (record { polygon = i; from = t + 2; to = 0 }) ≡ 3 * (b + t) + 2
