@@ -22,7 +22,7 @@ first_in [] m i = absurd i
 first_in (n ∷ ns) m i = inl refl
 
 after_head : (x y : ℕ) (xs ys : List ℕ) → x ≡ y → AllByRecursion (λ m. x < m) xs → ((n : ℕ) → IsIn n (x ∷ xs) → IsIn n (y ∷ ys)) → (n : ℕ) → IsIn n xs → IsIn n ys
-after_head x y xs ys same above to n i = elim (to n (inr i)) [ | inl e ↦ absurd (let more = All-member (λ m. x < m) xs n above i in omega arith) | inr j ↦ j ]
+after_head x y xs ys same above to n i = elim (to n (inr i)) [ inl e ↦ absurd (let more = All-member (λ m. x < m) xs n above i in omega arith) | inr j ↦ j ]
 
 -- ascending lists with the same members are equal
 pub ascending_equal : (xs ys : List ℕ) → IsAscending xs → IsAscending ys → ((n : ℕ) → IsIn n xs → IsIn n ys) → ((n : ℕ) → IsIn n ys → IsIn n xs) → xs ≡ ys
@@ -67,10 +67,10 @@ select P (n ∷ ns) up none = select P ns up.1 step
         forward p m (inr i) = let h = (is m).0 i in (inr h.0, h.1)
 
         back : (m : ℕ) → IsIn m (n ∷ ns) × P m → IsIn m (n ∷ selected)
-        back m h = elim h.0 [ | inl e ↦ inl e | inr i ↦ inr ((is m).1 (i, h.1)) ]
+        back m h = elim h.0 [ inl e ↦ inl e | inr i ↦ inr ((is m).1 (i, h.1)) ]
 
         narrow : ¬ P n → (m : ℕ) → IsIn m (n ∷ ns) × P m → IsIn m selected
-        narrow not m h = elim h.0 [ | inl e ↦ absurd (not (subst P e h.1)) | inr i ↦ (is m).1 (i, h.1) ]
+        narrow not m h = elim h.0 [ inl e ↦ absurd (not (subst P e h.1)) | inr i ↦ (is m).1 (i, h.1) ]
 
         without : ¬ P n → ⊥
         without not = none selected up' (λ m. (λ i. let h = (is m).0 i in (inr h.0, h.1), narrow not m))

@@ -12,7 +12,7 @@ below_or_equal : (m n : ℕ) → m ≤ n → (m < n) ⊎ (m ≡ n)
 below_or_equal m n h = grind arith
 
 module _ (d : ℕ) (t : Triangulation) (is : IsTriangulation d t) where
-  faces : List ℕ
+  abbrev faces : List ℕ
   faces = range_with_len 0 is.faces
 
   face_in : (f : ℕ) → IsFace t f → IsIn f faces
@@ -56,7 +56,7 @@ module _ (d : ℕ) (t : Triangulation) (is : IsTriangulation d t) where
   cells_of (l ∷ ls) lead none =
       select (AreOfOneCell d t l) faces (range_ascending 0 is.faces) (λ cell up members. cells_of ls (λ m i. lead m (inr i)) (λ cells firsts each.
       none (cell ∷ cells) (λ i. begins l cell (lead l (inl refl)).0 (lead l (inl refl)).1 up members i ∷ firsts i)
-      (λ c i. elim i [ | inl e ↦ subst IsCell (sym e) (cell_of l cell (lead l (inl refl)).0 (lead l (inl refl)).1 up members) | inr j ↦ each c j ])))
+      (λ c i. elim i [ inl e ↦ subst IsCell (sym e) (cell_of l cell (lead l (inl refl)).0 (lead l (inl refl)).1 up members) | inr j ↦ each c j ])))
 
   all_of_each : (P : List ℕ → Type 0) (cells : List (List ℕ)) → ((cell : List ℕ) → IsIn cell cells → P cell) → AllByRecursion P cells
   all_of_each P [] h = tt
@@ -85,8 +85,8 @@ module _ (d : ℕ) (t : Triangulation) (is : IsTriangulation d t) where
       cells_are all = record {
         some_face = λ cell i. (in_face (first_of cell) (((each cell i).members (first_of cell)).0 (each cell i).own).0, (each cell i).own);
         whole = λ cell i f. (
-            λ h. let at = ((each cell i).members f).0 h in (in_face f at.0, at.1),
-            λ h. ((each cell i).members f).1 (face_in f h.0, h.1),
+          λ h. let at = ((each cell i).members f).0 h in (in_face f at.0, at.1),
+          λ h. ((each cell i).members f).1 (face_in f h.0, h.1),
         );
         each_face = λ f face. all f (face_in f face);
         ascending = all_of_each IsAscending cells (λ cell i. (each cell i).up);
