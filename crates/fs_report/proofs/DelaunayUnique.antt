@@ -26,13 +26,13 @@ use Rattle.fs_report.specs.DelaunayText.{IsDelaunayOf, IsStopText, AnswersStoppe
 -- ---- how a run ends
 
 -- the line, after these words, of a run that stops so
-stop_line : List ℕ → Stop → List ℕ
+abbrev stop_line : List ℕ → Stop → List ℕ
 stop_line words (Overflow site) = overflow_line words site
 stop_line words (Undecided n) = undecided_line words n
 stop_line words NoMemory = []
 
 -- a run with a spent budget makes all its flips
-IsBudget : ℕ → Result Flipped Stop → Type 0
+abbrev IsBudget : ℕ → Result Flipped Stop → Type 0
 IsBudget n (Err (Undecided m)) = m ≡ n
 IsBudget n end = Unit {0}
 
@@ -43,7 +43,7 @@ spent_is d start n _ (flip_overflows edges t e place leads few r f o) = tt
 spent_is d start n _ (budget_spent edges t e leads all r f) = refl
 
 -- a run never ends for want of memory
-EndsSomehow : Result Flipped Stop → Type 0
+abbrev EndsSomehow : Result Flipped Stop → Type 0
 EndsSomehow (Err NoMemory) = ⊥
 EndsSomehow end = Unit {0}
 
@@ -54,7 +54,7 @@ ends_somehow d start n _ (flip_overflows edges t e place leads few r f o) = tt
 ends_somehow d start n _ (budget_spent edges t e leads all r f) = tt
 
 -- where a run leads to a triangulation, it is a Delaunay run
-IsRunTo : ℕ → Triangulation → Result Flipped Stop → Type 0
+abbrev IsRunTo : ℕ → Triangulation → Result Flipped Stop → Type 0
 IsRunTo d start (Ok found) = IsDelaunayRun d start found.edges found.triangles
 IsRunTo d start (Err stop) = Unit {0}
 
@@ -161,11 +161,11 @@ module _ (s : GluedPolygons) (budget : ℕ) (surface : IsSurface s) (strict : s.
   stopped_at : (words : List ℕ) (start : Triangulation) → IsFirstTriangulation s start → (stop : Stop) → EndsRun s.d start budget (Err stop) → (text : List ℕ) × AnswersStopped s budget words text true
   stopped_at words start first (Overflow site) ends = (_, overflowed start site first ends refl refl)
   stopped_at words start first (Undecided n) ends =
-      let same = spent_is s.d start budget (Err (Undecided n)) ends in
-      (_, undecided start first (subst (λ m. EndsRun s.d start budget (Err (Undecided m))) same ends) refl refl)
+      let same : n ≡ budget = spent_is s.d start budget (Err (Undecided n)) ends in
+      (_, undecided start first (subst (λ (m : ℕ). EndsRun s.d start budget (Err (Undecided m))) same ends) refl refl)
   stopped_at words start first NoMemory ends = absurd (ends_somehow s.d start budget (Err NoMemory) ends)
 
-  first_there : (start : Triangulation) × IsFirstTriangulation s start
+  abbrev first_there : (start : Triangulation) × IsFirstTriangulation s start
   first_there = let cut = first_cut_exists s surface in (triangulation_of cut.0, record { triangles = cut.0; cut = cut.1; same = refl })
 
   -- `delaunay` has an answer
@@ -183,7 +183,7 @@ module _ (s : GluedPolygons) (budget : ℕ) (surface : IsSurface s) (strict : s.
       by_end : (end : Result Flipped Stop) × EndsRun s.d first_there.0 budget end → ⊥
       by_end (Ok found, ends) =
           let at = found_at first_there.0 first_there.1 found ends in
-          let mesh = mesh_of_flips s first_there.0 found.edges found.triangles (first_is_mesh first_there.0 first_there.1) at.run.flips in
+          let mesh = mesh_of_flips s first_there.0 found.edges found.triangles (first_is_mesh first_there.0 first_there.1) (run_to s.d first_there.0 budget (Ok found) ends).flips in
           cell_list_exists s.d found.triangles mesh.triangulation (λ cells are. none _ _ (celled found.edges found.triangles cells at are refl refl))
       by_end (Err stop, ends) = let line = stopped_at (codes "cells") first_there.0 first_there.1 stop ends in none _ _ (not_celled line.1)
 
@@ -193,8 +193,8 @@ module _ (s : GluedPolygons) (budget : ℕ) (mesh : MeshValue) (of_surface : mes
   at_stop : (words text : List ℕ) (partial : Bool) (stop : Stop) → ReturnsRun (EndsRun s.d mesh.triangles budget) (Err stop) → IsStopText stop words text partial → AnswersStopped s budget words text partial
   at_stop words text partial (Overflow site) run is = overflowed mesh.triangles site first run is.0 is.1
   at_stop words text partial (Undecided n) run is =
-      let same = spent_is s.d mesh.triangles budget (Err (Undecided n)) run in
-      undecided mesh.triangles first (subst (λ m. EndsRun s.d mesh.triangles budget (Err (Undecided m))) same run) (is.0 ∙ ap (undecided_line words) same) is.1
+      let same : n ≡ budget = spent_is s.d mesh.triangles budget (Err (Undecided n)) run in
+      undecided mesh.triangles first (subst (λ (m : ℕ). EndsRun s.d mesh.triangles budget (Err (Undecided m))) same run) (is.0 ∙ ap (undecided_line words) same) is.1
   at_stop words text partial NoMemory run is = absurd is
 
   -- a run that stops
