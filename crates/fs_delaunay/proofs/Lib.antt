@@ -3,3 +3,5 @@ pub mod FlipsUnique
 pub mod CheckedRunLaws
 pub mod EndsUnique
 pub mod Marks
+pub mod SuspectsAfterFlip
+pub mod SuspectSearch

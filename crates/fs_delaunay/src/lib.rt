@@ -2,6 +2,7 @@
 #![tactic(auto)]
 
 mod delaunay;
+mod run;
 mod suspects;
 
 pub use delaunay::{Delaunay, start};
