@@ -6,3 +6,4 @@ mod run;
 mod suspects;
 
 pub use delaunay::{Delaunay, start};
+pub use run::find_delaunay;

@@ -79,3 +79,58 @@ fn suspect_hinge(mesh: &Mesh<'_>, edge: u32, suspects: &mut Suspects)
     suspect_edge(mesh, after_twin, suspects);
     suspect_edge(mesh, mesh.next(after_twin), suspects);
 }
+
+// One step of a run: flips the first edge that fails, and adds it to the list, or tells that each edge passes.
+fn flip_next(
+    mesh: &mut Mesh<'_>,
+    suspects: &mut Suspects,
+    edges: &mut Sequence<u32>,
+    budget: u32,
+) -> Result<bool, Stop>
+    requires mesh { IsMesh mesh.old }
+    requires suspects { MarksSuspects mesh.old.surface.d mesh.old.triangles suspects.old }
+    requires within { length edges.old ≤ budget }
+    ensures surface { mesh.new.surface ≡ mesh.old.surface }
+    ensures step { Steps mesh.old.surface.d mesh.old.triangles edges.old budget mesh.new.triangles edges.new result }
+    ensures mesh { OnOk result (IsMesh mesh.new) }
+    ensures suspects { OnOk result (MarksSuspects mesh.new.surface.d mesh.new.triangles suspects.new) }
+{
+    let flips = edges.len() as u32;
+    let Some(edge) = find_failing(mesh, suspects, flips)? else {
+        return Ok(false);
+    };
+    if flips == budget {
+        return Err(Stop::Undecided(budget));
+    }
+    if let Err(Place(place)) = mesh.flip(edge) {
+        return Err(Stop::Overflow(Site::Flip { flips, edge, place }));
+    }
+    suspect_hinge(mesh, edge, suspects);
+    edges.push(edge)?;
+    Ok(true)
+}
+
+/// Flips illegal edges until there is none, each time the first one, and gives the mesh that this leads to, with the
+/// edges that were flipped, in order. An edge has the number of its lesser half-edge, and its circle value is computed
+/// as by `circle_of`.
+///
+/// It is refused as `Undecided` where so many flips as the budget leave an illegal edge, and as `Overflow` at the
+/// first site: `Circle` where an edge's circle value overflows and each edge before it is legal, also after the last
+/// flip, and `Flip` where the vector of a flip does. The cost is linear in the faces and in the flips.
+pub fn find_delaunay<'a>(alloc: Global, mesh: Mesh<'a>, budget: u32) -> Result<Delaunay<'a>, Stop>
+    requires { budget ≤ 1000000 }
+    ensures run { ReturnsRun (EndsRun mesh.surface.d mesh.triangles budget) result }
+    // There is no other end: this is the one that the definition gives.
+    ensures only { (end : Result Flipped Stop) → EndsRun mesh.surface.d mesh.triangles budget end → ReturnsRun (λ returned. returned ≡ end) result }
+    ensures surface { IfOk result (λ delaunay. delaunay.mesh.surface ≡ mesh.surface) }
+    ensures delaunay { IfOk result (λ delaunay. IsDelaunayRun mesh.surface.d mesh.triangles delaunay.edges delaunay.mesh.triangles) }
+{
+    let mut mesh = mesh;
+    let mut suspects = Suspects::all(alloc, mesh.half_edges())?;
+    let mut edges = Sequence::new(alloc);
+    let mut more = true;
+    while more {
+        more = flip_next(&mut mesh, &mut suspects, &mut edges, budget)?;
+    }
+    Ok(Delaunay::new(mesh, edges))
+}
