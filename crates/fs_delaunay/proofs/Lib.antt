@@ -5,3 +5,5 @@ pub mod EndsUnique
 pub mod Marks
 pub mod SuspectsAfterFlip
 pub mod SuspectSearch
+pub mod RunSteps
+pub mod Runs

@@ -35,7 +35,7 @@ impl<'a> Delaunay<'a> {
     // The result of a run.
     pub(crate) fn new(mesh: Mesh<'a>, edges: Sequence<u32>) -> Delaunay<'a>
         requires { AllPass mesh.surface.d mesh.triangles }
-        ensures mesh { result.mesh ≡ mesh }
+        ensures mesh { result.mesh ≡ mesh.entry }
         ensures edges { result.edges ≡ edges }
     {
         Delaunay { mesh, edges }

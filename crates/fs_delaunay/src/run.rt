@@ -119,11 +119,11 @@ fn flip_next(
 /// flip, and `Flip` where the vector of a flip does. The cost is linear in the faces and in the flips.
 pub fn find_delaunay<'a>(alloc: Global, mesh: Mesh<'a>, budget: u32) -> Result<Delaunay<'a>, Stop>
     requires { budget ≤ 1000000 }
-    ensures run { ReturnsRun (EndsRun mesh.surface.d mesh.triangles budget) result }
+    ensures run { ReturnsRun (EndsRun mesh.entry.surface.d mesh.entry.triangles budget) result }
     // There is no other end: this is the one that the definition gives.
-    ensures only { (end : Result Flipped Stop) → EndsRun mesh.surface.d mesh.triangles budget end → ReturnsRun (λ returned. returned ≡ end) result }
-    ensures surface { IfOk result (λ delaunay. delaunay.mesh.surface ≡ mesh.surface) }
-    ensures delaunay { IfOk result (λ delaunay. IsDelaunayRun mesh.surface.d mesh.triangles delaunay.edges delaunay.mesh.triangles) }
+    ensures only { (end : Result Flipped Stop) → EndsRun mesh.entry.surface.d mesh.entry.triangles budget end → ReturnsRun (λ returned. returned ≡ end) result }
+    ensures surface { IfOk result (λ delaunay. delaunay.mesh.surface ≡ mesh.entry.surface) }
+    ensures delaunay { IfOk result (λ delaunay. IsDelaunayRun mesh.entry.surface.d mesh.entry.triangles delaunay.edges delaunay.mesh.triangles) }
 {
     let mut mesh = mesh;
     let mut suspects = Suspects::all(alloc, mesh.half_edges())?;
