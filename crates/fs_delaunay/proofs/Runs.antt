@@ -1,5 +1,7 @@
 -- A run under way: the loop's invariant, and how the run ends.
 use Rattle.std.proofs.Common.{◌≡◌, ◌≢◌, ◌⊎◌, ℕ, ◌+◌, ◌-◌, ◌<◌, ◌≤◌, Bool, true, false, cond, List, [], ◌∷◌, ◌++◌, length, Ok, Err, Result, refl, sym, ap, ◌∙◌, subst, inl, inr, arith, length-append}
+use Rattle.std.specs.Result.{IsErrAnd}
+use Rattle.fs_lists.proofs.Results.{at_exit}
 use Rattle.fs_plane.specs.declared.sites.Stop.{Stop}
 use Rattle.fs_plane.specs.declared.sites.Stop.TheVariants.{Undecided, Overflow, NoMemory}
 use Rattle.fs_gluing.specs.Triangulation.{Triangulation, IsTriangulation, IsEdge}
@@ -67,23 +69,27 @@ module _ (start : MeshValue) (budget : ℕ) (m : MeshValue) (marks : List Bool) 
   pub step_is_smaller : more ≡ true → (after : Triangulation) (edges_after : List ℕ) (again : Bool) → Steps m.surface.d m.triangles edges budget after edges_after (Ok again)
       → (budget - length edges_after) + cond again 1 0 < (budget - length edges) + cond more 1 0
   step_is_smaller is after edges_after true s =
-      let room = s.room in
-      let longer = ap length s.added ∙ length-append edges (s.edge ∷ []) in
-      let now : cond more 1 0 ≡ 1 = ap (λ b. cond b 1 0) is in
-      omega arith
+      let room : length edges < budget = s.room in
+      let longer : length edges_after ≡ length edges + 1 = ap length s.added ∙ length-append edges (s.edge ∷ []) in
+      let now : cond {A = ℕ} more 1 0 ≡ 1 = ap (λ b. cond {A = ℕ} b 1 0) is in
+      omega (arith, room, longer, now)
   step_is_smaller is after edges_after false s =
-      let same = ap length s.same_edges in
-      let now : cond more 1 0 ≡ 1 = ap (λ b. cond b 1 0) is in
-      omega arith
+      let same : length edges_after ≡ length edges = ap length s.same_edges in
+      let now : cond {A = ℕ} more 1 0 ≡ 1 = ap (λ b. cond {A = ℕ} b 1 0) is in
+      omega (arith, same, now)
 
   -- where a step ends the run, this is the end
-  pub step_ends : (after : Triangulation) (edges_after : List ℕ) (stop : Stop) → Steps m.surface.d m.triangles edges budget after edges_after (Err stop)
+  step_ends : (after : Triangulation) (edges_after : List ℕ) (stop : Stop) → Steps m.surface.d m.triangles edges budget after edges_after (Err stop)
       → ReturnsRun (EndsRun d start.triangles budget) (Err stop)
   step_ends after edges_after NoMemory s = tt
   step_ends after edges_after (Undecided n) s =
       ends_here d budget start.triangles edges m.triangles (Err (Undecided n)) u.leads (subst (λ x. EndsHere x.d m.triangles edges budget (Err (Undecided n))) u.surface s)
   step_ends after edges_after (Overflow site) s =
       ends_here d budget start.triangles edges m.triangles (Err (Overflow site)) u.leads (subst (λ x. EndsHere x.d m.triangles edges budget (Err (Overflow site))) u.surface s)
+
+  pub stop_returned : (after : Triangulation) (edges_after : List ℕ) (stop : Stop) → Steps m.surface.d m.triangles edges budget after edges_after (Err stop)
+      → (result : Result DelaunayValue Stop) → IsErrAnd result (λ y. y ≡ stop) → ReturnsRun (EndsRun d start.triangles budget) result
+  stop_returned after edges_after stop s result is = at_exit (ReturnsRun (EndsRun d start.triangles budget)) result stop is (step_ends after edges_after stop s)
 
   -- where nothing is left to flip, the run ends with the mesh
   pub run_ends : more ≡ false → EndsRun d start.triangles budget (Ok (record { edges = edges; triangles = m.triangles }))
