@@ -92,20 +92,35 @@ module _ (start : MeshValue) (budget : ℕ) (m : MeshValue) (marks : List Bool) 
   stop_returned after edges_after stop s result is = at_exit (ReturnsRun (EndsRun d start.triangles budget)) result stop is (step_ends after edges_after stop s)
 
   -- where nothing is left to flip, the run ends with the mesh
-  pub run_ends : more ≡ false → EndsRun d start.triangles budget (Ok (record { edges = edges; triangles = m.triangles }))
+  run_ends : more ≡ false → EndsRun d start.triangles budget (Ok (record { edges = edges; triangles = m.triangles }))
   run_ends last = checked.all_pass edges m.triangles u.leads u.within (subst (λ x. AllPass x.d m.triangles) u.surface (u.all_pass last))
 
   -- and this is the Delaunay run
-  pub run_is_delaunay : more ≡ false → IsDelaunayRun d start.triangles edges m.triangles
+  run_is_delaunay : more ≡ false → IsDelaunayRun d start.triangles edges m.triangles
   run_is_delaunay last = record {
     flips = run_of_checks d start.triangles edges m.triangles u.leads;
     delaunay = delaunay_of_all_pass d m.triangles (subst (λ x. AllPass x.d m.triangles) u.surface (u.all_pass last));
   }
 
+  -- a value with this mesh and these edges
+  module _ (value : DelaunayValue) (same_mesh : value.mesh ≡ m) (same_edges : value.edges ≡ edges) (last : more ≡ false) where
+    -- is the end
+    pub run_returned : ReturnsRun (EndsRun d start.triangles budget) (Ok value)
+    run_returned =
+        subst (λ es. EndsRun d start.triangles budget (Ok (record { edges = es; triangles = value.mesh.triangles }))) (sym same_edges)
+        (subst (λ x. EndsRun d start.triangles budget (Ok (record { edges = edges; triangles = x.triangles }))) (sym same_mesh) (run_ends last))
+
+    -- and what the Delaunay run leads to
+    pub delaunay_returned : IsDelaunayRun d start.triangles value.edges value.mesh.triangles
+    delaunay_returned =
+        subst (λ es. IsDelaunayRun d start.triangles es value.mesh.triangles) (sym same_edges)
+        (subst (λ x. IsDelaunayRun d start.triangles edges x.triangles) (sym same_mesh) (run_is_delaunay last))
+
 -- what a call returns is the one end of the run
 pub returned_unique : (start : MeshValue) (budget : ℕ) → IsMesh start → (result : Result DelaunayValue Stop) → ReturnsRun (EndsRun start.surface.d start.triangles budget) result
     → (end : Result Flipped Stop) → EndsRun start.surface.d start.triangles budget end → ReturnsRun (λ returned. returned ≡ end) result
-returned_unique start budget mesh (Ok v) h end ends = end_unique start.surface.d budget mesh.surface.radicand start.triangles _ end mesh.triangulation h ends
+returned_unique start budget mesh (Ok v) h end ends =
+    end_unique start.surface.d budget mesh.surface.radicand start.triangles (Ok (record { edges = v.edges; triangles = v.mesh.triangles })) end mesh.triangulation h ends
 returned_unique start budget mesh (Err NoMemory) h end ends = tt
-returned_unique start budget mesh (Err (Undecided n)) h end ends = end_unique start.surface.d budget mesh.surface.radicand start.triangles _ end mesh.triangulation h ends
-returned_unique start budget mesh (Err (Overflow site)) h end ends = end_unique start.surface.d budget mesh.surface.radicand start.triangles _ end mesh.triangulation h ends
+returned_unique start budget mesh (Err (Undecided n)) h end ends = end_unique start.surface.d budget mesh.surface.radicand start.triangles (Err (Undecided n)) end mesh.triangulation h ends
+returned_unique start budget mesh (Err (Overflow site)) h end ends = end_unique start.surface.d budget mesh.surface.radicand start.triangles (Err (Overflow site)) end mesh.triangulation h ends

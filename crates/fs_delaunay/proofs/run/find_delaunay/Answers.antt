@@ -4,7 +4,7 @@ use Rattle.fs_delaunay.specs.CheckedRuns.{EndsRun, AllPass}
 use Rattle.fs_delaunay.specs.Results.{DelaunayValue, ReturnsRun}
 use Rattle.fs_delaunay.specs.Runs.{IsDelaunayRun}
 use Rattle.fs_delaunay.specs.Suspects.{mark_of}
-use Rattle.fs_delaunay.proofs.Runs.{IsUnderWay, run_starts, step_goes_on, step_is_smaller, stop_returned, run_ends, run_is_delaunay, returned_unique}
+use Rattle.fs_delaunay.proofs.Runs.{IsUnderWay, run_starts, step_goes_on, step_is_smaller, stop_returned, run_returned, delaunay_returned, returned_unique}
 use Rattle.fs_delaunay.proofs.run.find_delaunay.Goals as goal
 
 pub loop-more-init : goal.loop-more-init
@@ -39,16 +39,16 @@ new-requires c = c.loop-more.invariant.all_pass c.loop-more-test.false
 
 pub returns-clause-run : goal.returns-clause-run
 returns-clause-run c =
-    subst (λ v. ReturnsRun (EndsRun c.args.mesh.surface.d c.args.mesh.triangles c.args.budget) (Ok v)) (λ i. record { mesh = sym c.new.ensures.mesh i; edges = sym c.new.ensures.edges i })
-    (run_ends c.args.mesh c.args.budget c.loop-more.mesh c.loop-more.suspects c.loop-more.edges c.loop-more.more c.loop-more.invariant c.loop-more-test.false)
+    run_returned c.args.mesh c.args.budget c.loop-more.mesh c.loop-more.suspects c.loop-more.edges c.loop-more.more c.loop-more.invariant c.new.result c.new.ensures.mesh c.new.ensures.edges
+    c.loop-more-test.false
 
 pub returns-clause-only : goal.returns-clause-only
 returns-clause-only c =
     returned_unique c.args.mesh c.args.budget c.half_edges.ensures.mesh (Ok c.new.result)
-    (subst (λ v. ReturnsRun (EndsRun c.args.mesh.surface.d c.args.mesh.triangles c.args.budget) (Ok v)) (λ i. record { mesh = sym c.new.ensures.mesh i; edges = sym c.new.ensures.edges i })
-    (run_ends c.args.mesh c.args.budget c.loop-more.mesh c.loop-more.suspects c.loop-more.edges c.loop-more.more c.loop-more.invariant c.loop-more-test.false))
+    (run_returned c.args.mesh c.args.budget c.loop-more.mesh c.loop-more.suspects c.loop-more.edges c.loop-more.more c.loop-more.invariant c.new.result c.new.ensures.mesh c.new.ensures.edges
+    c.loop-more-test.false)
 
 pub returns-clause-delaunay : goal.returns-clause-delaunay
 returns-clause-delaunay c =
-    subst (λ v. IsDelaunayRun c.args.mesh.surface.d c.args.mesh.triangles v.edges v.mesh.triangles) (λ i. record { mesh = sym c.new.ensures.mesh i; edges = sym c.new.ensures.edges i })
-    (run_is_delaunay c.args.mesh c.args.budget c.loop-more.mesh c.loop-more.suspects c.loop-more.edges c.loop-more.more c.loop-more.invariant c.loop-more-test.false)
+    delaunay_returned c.args.mesh c.args.budget c.loop-more.mesh c.loop-more.suspects c.loop-more.edges c.loop-more.more c.loop-more.invariant c.new.result c.new.ensures.mesh c.new.ensures.edges
+    c.loop-more-test.false
