@@ -6,4 +6,4 @@ pub mod Marks
 pub mod SuspectsAfterFlip
 pub mod SuspectSearch
 pub mod RunSteps
-pub mod Runs
+pub mod RunsUnderWay

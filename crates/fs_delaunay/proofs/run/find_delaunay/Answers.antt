@@ -4,7 +4,7 @@ use Rattle.fs_delaunay.specs.CheckedRuns.{EndsRun, AllPass}
 use Rattle.fs_delaunay.specs.Results.{DelaunayValue, ReturnsRun}
 use Rattle.fs_delaunay.specs.Runs.{IsDelaunayRun}
 use Rattle.fs_delaunay.specs.Suspects.{mark_of}
-use Rattle.fs_delaunay.proofs.Runs.{IsUnderWay, run_starts, step_goes_on, step_is_smaller, stop_returned, run_returned, delaunay_returned, returned_unique}
+use Rattle.fs_delaunay.proofs.RunsUnderWay.{IsUnderWay, run_starts, step_goes_on, step_is_smaller, stop_returned, run_returned, delaunay_returned, returned_unique}
 use Rattle.fs_delaunay.proofs.run.find_delaunay.Goals as goal
 
 pub loop-more-init : goal.loop-more-init

@@ -1,6 +1,6 @@
 -- Checked flips led to the mesh, each edge that isn't a suspect passes, and where nothing was left to flip each edge does.
 use Rattle.std.proofs.Common.{◌+◌, ◌-◌, length, cond}
-use Rattle.fs_delaunay.proofs.Runs.{IsUnderWay}
+use Rattle.fs_delaunay.proofs.RunsUnderWay.{IsUnderWay}
 use Rattle.fs_delaunay.proofs.run.find_delaunay.Given as goal
 
 abbrev pub invariant-loop-more : goal.invariant-loop-more
