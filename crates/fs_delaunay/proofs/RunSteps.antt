@@ -1,15 +1,15 @@
 -- The steps of a run: where it ends, and what a flip leaves.
-use Rattle.std.proofs.Common.{◌≡◌, ◌≢◌, ◌⊎◌, ℕ, ◌+◌, ◌<◌, ◌≤◌, Bool, true, false, List, [], ◌∷◌, ◌++◌, length, Ok, Err, Result, Option, Some, None, refl, sym, ap, ◌∙◌, subst, inl, inr, arith}
+use Rattle.std.proofs.Common.{◌≡◌, ◌≢◌, ℕ, ◌≤◌, Bool, List, length, Ok, Err, Option, Some, sym, ◌∙◌, subst, arith}
 use Rattle.fs_quadratic.specs.declared.steps.Place.{Place}
 use Rattle.fs_plane.specs.declared.sites.Site.TheVariants.{Circle, Flip}
 use Rattle.fs_plane.specs.declared.sites.Stop.{Stop}
 use Rattle.fs_plane.specs.declared.sites.Stop.TheVariants.{Undecided, Overflow}
-use Rattle.fs_gluing.specs.Triangulation.{Triangulation, IsTriangulation, IsEdge}
+use Rattle.fs_gluing.specs.Triangulation.{Triangulation}
 use Rattle.fs_mesh.specs.Meshes.{MeshValue, IsMesh, IsIllegal}
 use Rattle.fs_mesh.specs.FlippedMeshes.{IsFlipOf, flipped_vector}
 use Rattle.fs_mesh.proofs.MeshAfterFlip.{mesh_after}
-use Rattle.fs_delaunay.specs.CheckedRuns.{Flipped, Fails, AllPass, IsReached}
-use Rattle.fs_delaunay.specs.Steps.{EndsHere, all_pass, circle_overflows, flip_overflows, budget_spent, StopsAtEdge, FindsFailing, FlipsNext, FlipsNone, Steps}
+use Rattle.fs_delaunay.specs.CheckedRuns.{Fails, IsReached}
+use Rattle.fs_delaunay.specs.Steps.{EndsHere, circle_overflows, flip_overflows, budget_spent, StopsAtEdge, FindsFailing, Steps}
 use Rattle.fs_delaunay.specs.Suspects.{MarksSuspects, with_marks, hinge_edges}
 use Rattle.fs_delaunay.proofs.CheckedRunLaws.{illegal_of_fails}
 use Rattle.fs_delaunay.proofs.SuspectsAfterFlip.{suspects_after_flip}

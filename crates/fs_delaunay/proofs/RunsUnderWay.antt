@@ -1,17 +1,17 @@
 -- A run under way: the loop's invariant, and how the run ends.
-use Rattle.std.proofs.Common.{◌≡◌, ◌≢◌, ◌⊎◌, ℕ, ◌+◌, ◌-◌, ◌<◌, ◌≤◌, Bool, true, false, cond, List, [], ◌∷◌, ◌++◌, length, Ok, Err, Result, refl, sym, ap, ◌∙◌, subst, inl, inr, arith, length-append}
+use Rattle.std.proofs.Common.{◌≡◌, ℕ, ◌+◌, ◌-◌, ◌<◌, ◌≤◌, Bool, true, false, cond, List, [], ◌∷◌, length, Ok, Err, Result, refl, sym, ap, ◌∙◌, subst, arith, length-append}
 use Rattle.std.specs.Result.{IsErrAnd}
 use Rattle.fs_lists.proofs.Results.{at_exit}
 use Rattle.fs_plane.specs.declared.sites.Stop.{Stop}
 use Rattle.fs_plane.specs.declared.sites.Stop.TheVariants.{Undecided, Overflow, NoMemory}
-use Rattle.fs_gluing.specs.Triangulation.{Triangulation, IsTriangulation, IsEdge}
+use Rattle.fs_gluing.specs.Triangulation.{Triangulation}
 use Rattle.fs_mesh.specs.Meshes.{MeshValue, IsMesh}
 use Rattle.fs_mesh.specs.FlippedMeshes.{IsFlipOf}
 use Rattle.fs_delaunay.specs.Runs.{IsDelaunayRun}
 use Rattle.fs_delaunay.specs.CheckedRuns as checked
 use Rattle.fs_delaunay.specs.CheckedRuns.{Flipped, AllPass, LeadsByChecks, EndsRun}
 use Rattle.fs_delaunay.specs.Results.{DelaunayValue, ReturnsRun}
-use Rattle.fs_delaunay.specs.Steps.{EndsHere, FlipsNext, FlipsNone, Steps}
+use Rattle.fs_delaunay.specs.Steps.{EndsHere, Steps}
 use Rattle.fs_delaunay.specs.Suspects.{MarksSuspects, mark_of}
 use Rattle.fs_delaunay.proofs.CheckedRunLaws.{run_of_checks, delaunay_of_all_pass}
 use Rattle.fs_delaunay.proofs.EndsUnique.{end_unique, ends_here}

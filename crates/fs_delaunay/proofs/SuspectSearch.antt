@@ -1,5 +1,5 @@
 -- The search for the first edge that fails, among the suspects.
-use Rattle.std.proofs.Common.{◌≡◌, ◌≢◌, ◌⊎◌, ◌↔◌, ℕ, ◌+◌, ◌-◌, ◌*◌, ◌<◌, ◌≤◌, Bool, true, false, List, length, get_or, Ok, Err, Option, Some, None, refl, sym, ap, ◌∙◌, subst, inl, inr, arith, length-set, get_or-set_same, get_or-set_other}
+use Rattle.std.proofs.Common.{◌≡◌, ◌↔◌, ℕ, ◌+◌, ◌<◌, ◌≤◌, Bool, false, List, length, Ok, refl, sym, ap, ◌∙◌, subst, inl, inr, arith, length-set, get_or-set_same, get_or-set_other}
 use Rattle.std.proofs.Math.ListN.{set}
 use Rattle.std.proofs.lemmas.Bool.{cases_lt}
 use Rattle.std.proofs.lemmas.Bool.Decides.{eqb_tells}
@@ -8,12 +8,11 @@ use Rattle.std.specs.Ordering.{ordering_index}
 use Rattle.std.specs.declared.cmp.Ordering.{Ordering}
 use Rattle.std.specs.declared.cmp.Ordering.TheVariants.{Less, Equal, Greater}
 use Rattle.fs_quadratic.specs.Ring.{Quadratic, IsPositive}
-use Rattle.fs_plane.specs.declared.sites.Stop.{Stop}
 use Rattle.fs_gluing.specs.Triangulation.{Triangulation, IsEdge, edge_twin}
 use Rattle.fs_mesh.specs.Meshes.{edge_circle_after}
-use Rattle.fs_delaunay.specs.CheckedRuns.{Passes, Fails, AllPass, IsReached}
-use Rattle.fs_delaunay.specs.Steps.{TestsEdge, FindsFailing}
-use Rattle.fs_delaunay.specs.Suspects.{mark_of, HasNoMark, IsFirstMark, FindsMark, MarksSuspects}
+use Rattle.fs_delaunay.specs.CheckedRuns.{Passes, AllPass, IsReached}
+use Rattle.fs_delaunay.specs.Steps.{TestsEdge}
+use Rattle.fs_delaunay.specs.Suspects.{mark_of, HasNoMark, IsFirstMark, MarksSuspects}
 
 module _ (d : ℕ) (t : Triangulation) (flips h : ℕ) where
   -- the sign of the circle value tells whether the edge fails

@@ -1,7 +1,7 @@
 -- After a flip each edge that isn't marked passes, where the flipped edge and those of the sides of its hinge are marked.
-use Rattle.std.proofs.Common.{◌≡◌, ◌≢◌, ◌⊎◌, ℕ, ◌<◌, ◌≤◌, Bool, true, false, cond, ltb, eqb, List, [], ◌∷◌, length, get_or, Ok, refl, sym, ap, ◌∙◌, subst, inl, inr, arith, length-set, get_or-set_same, get_or-set_other}
+use Rattle.std.proofs.Common.{◌≡◌, ◌≢◌, ◌⊎◌, ℕ, ◌<◌, ◌≤◌, Bool, true, false, cond, ltb, eqb, List, [], ◌∷◌, length, refl, sym, ap, ◌∙◌, subst, inl, inr, arith, length-set, get_or-set_same, get_or-set_other}
 use Rattle.std.proofs.Math.ListN.{set}
-use Rattle.std.proofs.lemmas.Bool.{lt-ltb, ltb-true, cases_lt, cases_Bool}
+use Rattle.std.proofs.lemmas.Bool.{lt-ltb, ltb-true, cases_Bool}
 use Rattle.std.proofs.lemmas.Bool.Decides.{eqb_tells}
 use Rattle.fs_ring.specs.OrderedRing.{IsOrderedRing}
 use Rattle.fs_quadratic.specs.Ring.{Quadratic, quadratic, IsPositive}
@@ -9,7 +9,6 @@ use Rattle.fs_quadratic.specs.Radicand.{IsRadicand}
 use Rattle.fs_quadratic.proofs.Laws.{field_order}
 use Rattle.fs_paths.specs.SideGluing.{SideGluing, IsSide}
 use Rattle.fs_plane.specs.Formulas.{circle_after}
-use Rattle.fs_plane.specs.Vector.{PlaneVector}
 use Rattle.fs_triangles.specs.Triangles.{AreTriangles}
 use Rattle.fs_triangles.specs.Flips.{moved}
 use Rattle.fs_triangles.proofs.TriangleSides as triangle_sides
@@ -18,9 +17,8 @@ use Rattle.fs_triangles.proofs.HingeNames.{IsOutsideHinge, edge, after_edge, bef
 use Rattle.fs_gluing.specs.Triangulation.{Triangulation, IsTriangulation, IsEdge, face_sides, edge_vector, edge_twin, next_in_face, prev_in_face}
 use Rattle.fs_mesh.specs.Meshes.{IsIllegal, edge_circle_after}
 use Rattle.fs_mesh.specs.FlippedMeshes.{IsFlipOf}
-use Rattle.fs_mesh.proofs.HalfEdgeNumbers.{eqb_tells_names, side_of_number, number_of_side}
+use Rattle.fs_mesh.proofs.HalfEdgeNumbers.{eqb_tells_names, side_of_number}
 use Rattle.fs_mesh.proofs.MeshAfterFlip.{triangulation_after}
-use Rattle.fs_delaunay.specs.CheckedRuns.{Passes}
 use Rattle.fs_delaunay.specs.Suspects.{mark_of, edge_name, with_marks, hinge_edges, MarksSuspects}
 
 -- ---- marks

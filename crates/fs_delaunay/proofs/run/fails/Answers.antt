@@ -1,5 +1,5 @@
 -- The sign of the circle value tells whether the edge fails.
-use Rattle.std.proofs.Common.{◌≡◌, ◌<◌, ◌↔◌, Ok, sym, ap, ◌∙◌, subst}
+use Rattle.std.proofs.Common.{◌≡◌, ◌<◌, ◌↔◌, sym, ap, ◌∙◌, subst}
 use Rattle.fs_quadratic.specs.Ring.{IsPositive}
 use Rattle.std.specs.declared.cmp.Ordering.TheVariants.{Greater}
 use Rattle.fs_delaunay.proofs.SuspectSearch.{tests_edge}

@@ -1,8 +1,5 @@
 -- The run goes on step by step, and ends in the one way in which it can.
-use Rattle.std.proofs.Common.{◌≡◌, ℕ, ◌<◌, List, [], Ok, Err, true, sym, ap, ◌∙◌, subst}
-use Rattle.fs_delaunay.specs.CheckedRuns.{EndsRun, AllPass}
-use Rattle.fs_delaunay.specs.Results.{DelaunayValue, ReturnsRun}
-use Rattle.fs_delaunay.specs.Runs.{IsDelaunayRun}
+use Rattle.std.proofs.Common.{◌≡◌, ℕ, ◌<◌, Ok, true, sym, ◌∙◌, subst}
 use Rattle.fs_delaunay.specs.Suspects.{mark_of}
 use Rattle.fs_delaunay.proofs.RunsUnderWay.{IsUnderWay, run_starts, step_goes_on, step_is_smaller, stop_returned, run_returned, delaunay_returned, returned_unique}
 use Rattle.fs_delaunay.proofs.run.find_delaunay.Goals as goal

@@ -1,5 +1,5 @@
 -- A suspect that passes is a suspect no more, and the search goes on after it.
-use Rattle.std.proofs.Common.{◌≡◌, ◌+◌, List, Bool, Ok, false, sym, ap, ◌∙◌, subst, arith}
+use Rattle.std.proofs.Common.{◌+◌, Ok, false, sym, ap, ◌∙◌, subst, arith}
 use Rattle.std.proofs.Math.ListN.{set}
 use Rattle.fs_delaunay.specs.Steps.{TestsEdge}
 use Rattle.fs_delaunay.proofs.SuspectSearch.{SearchesSuspects, search_goes_on}

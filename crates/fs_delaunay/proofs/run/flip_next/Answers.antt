@@ -1,5 +1,4 @@
 -- The first edge that fails is flipped, or the run ends.
-use Rattle.std.proofs.Common.{ℕ}
 use Rattle.fs_lists.proofs.Results.{at_exit}
 use Rattle.fs_delaunay.specs.Steps.{Steps}
 use Rattle.fs_delaunay.proofs.RunSteps.{step_stops, step_spent, step_overflows, found_illegal, mesh_of_flip, suspects_of_flip}

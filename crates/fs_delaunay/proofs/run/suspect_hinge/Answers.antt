@@ -1,5 +1,5 @@
 -- The half-edge before one is the next one of its next one.
-use Rattle.std.proofs.Common.{◌≡◌, ◌<◌, length, true, sym, ap, ◌∙◌, subst}
+use Rattle.std.proofs.Common.{◌≡◌, ◌<◌, length, true, ap, ◌∙◌, subst}
 use Rattle.std.proofs.Math.ListN.{set}
 use Rattle.fs_quadratic.proofs.Laws.{field_order}
 use Rattle.fs_gluing.specs.Triangulation.{edge_twin, next_in_face, prev_in_face}
