@@ -1,8 +1,8 @@
 -- Runs with the numbers by which they are computed: what passes isn't illegal, what fails is, and checked runs are runs.
-use Rattle.std.proofs.Common.{◌≡◌, ◌⊎◌, ℕ, zero, suc, ◌+◌, ◌<◌, ◌≤◌, Ok, Err, Result, List, length, sym, ◌∙◌, subst, inl, inr, arith}
+use Rattle.std.proofs.Common.{◌≡◌, ◌⊎◌, ℕ, zero, suc, ◌<◌, Ok, Err, Result, List, length, sym, ◌∙◌, subst, inl, inr, arith}
 use Rattle.std.proofs.lemmas.Bool.{cases_order, cases_lt}
 use Rattle.fs_lists.proofs.Results.{ok_equal, ok_not_err}
-use Rattle.fs_quadratic.specs.Ring.{Quadratic, quadratic, IsPositive}
+use Rattle.fs_quadratic.specs.Ring.{Quadratic, IsPositive}
 use Rattle.fs_quadratic.specs.Radicand.{IsRadicand}
 use Rattle.fs_quadratic.proofs.Laws.{field_order}
 use Rattle.fs_quadratic.specs.declared.steps.Place.{Place}

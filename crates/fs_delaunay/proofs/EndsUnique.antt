@@ -1,7 +1,7 @@
 -- A Delaunay run within a budget ends in exactly one way.
 use Rattle.std.proofs.Common.{◌≡◌, ◌⊎◌, ℕ, zero, suc, ◌+◌, ◌<◌, ◌≤◌, Ok, Err, Result, List, [], ◌∷◌, ◌++◌, length, refl, sym, ap, ◌∙◌, subst, inl, inr, arith, length-append}
 use Rattle.std.specs.Prelude.{IsOk}
-use Rattle.fs_lists.proofs.Results.{err_equal, ok_not_err}
+use Rattle.fs_lists.proofs.Results.{err_equal}
 use Rattle.fs_quadratic.specs.Radicand.{IsRadicand}
 use Rattle.fs_quadratic.specs.declared.steps.Place.{Place}
 use Rattle.fs_plane.specs.Vector.{PlaneVector}
@@ -16,7 +16,7 @@ use Rattle.fs_delaunay.specs.CheckedRuns as run
 use Rattle.fs_delaunay.specs.CheckedRuns.{Flipped, AllPass, Fails, IsReached, LeadsByChecks, EndsRun}
 use Rattle.fs_delaunay.specs.Steps.{EndsHere, all_pass, circle_overflows, flip_overflows, budget_spent}
 use Rattle.fs_delaunay.proofs.FlipsUnique.{flip_unique, flipped, is_flipped}
-use Rattle.fs_delaunay.proofs.CheckedRunLaws.{FirstStop, illegal_of_fails, not_fails_and_overflows, reached_unique, reached_not_all, first_stop}
+use Rattle.fs_delaunay.proofs.CheckedRunLaws.{illegal_of_fails, not_fails_and_overflows, reached_unique, reached_not_all, first_stop}
 
 -- how it ends from there, with the flips to come
 pub data EndsFrom (d : ℕ) (n : ℕ) : Triangulation → List ℕ → Result Flipped Stop → Type 0 where

@@ -1,14 +1,13 @@
 -- A flip is a function: a triangulation with an edge flipped is one triangulation, and there is one.
-use Rattle.std.proofs.Common.{◌≡◌, ◌≢◌, ℕ, ◌<◌, List, length, get_or, refl, sym, ap, ◌∙◌, subst, inl, inr}
+use Rattle.std.proofs.Common.{◌≡◌, ℕ, ◌<◌, length, refl, sym, ap, ◌∙◌, subst, inl, inr}
 use Rattle.std.proofs.lemmas.List.{ext_get_or}
 use Rattle.fs_ring.specs.OrderedRing.{IsOrderedRing}
-use Rattle.fs_quadratic.specs.Ring.{Quadratic, quadratic, IsPositive}
+use Rattle.fs_quadratic.specs.Ring.{quadratic, IsPositive}
 use Rattle.fs_quadratic.specs.Radicand.{IsRadicand}
 use Rattle.fs_quadratic.proofs.Laws.{field_order}
-use Rattle.fs_paths.specs.SideGluing.{SideGluing, IsSide}
+use Rattle.fs_paths.specs.SideGluing.{IsSide}
 use Rattle.fs_plane.specs.Vector.{vector_zero, vector_add}
 use Rattle.fs_triangles.specs.Triangles.{AreTriangles}
-use Rattle.fs_triangles.specs.Flips.{moved}
 use Rattle.fs_triangles.proofs.HingeNames as hinge_names
 use Rattle.fs_gluing.specs.Triangulation.{Triangulation, IsTriangulation, face_sides, edge_vector, edge_twin, next_in_face, prev_in_face}
 use Rattle.fs_mesh.specs.FlippedMeshes.{IsFlipOf}

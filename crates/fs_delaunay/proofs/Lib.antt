@@ -6,3 +6,7 @@ pub mod CellListExists
 pub mod CheckedRunLaws
 pub mod EndsUnique
 pub mod Marks
+pub mod SuspectsAfterFlip
+pub mod SuspectSearch
+pub mod RunSteps
+pub mod RunsUnderWay

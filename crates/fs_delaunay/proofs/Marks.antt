@@ -1,9 +1,9 @@
 -- Marks in blocks of 64: how the first one is found.
-use Rattle.std.proofs.Common.{◌≡◌, ◌≢◌, ◌⊎◌, ℕ, ◌+◌, ◌*◌, ◌/◌, ◌<◌, ◌≤◌, Bool, true, false, List, length, get_or, Option, Some, None, refl, sym, ap, ◌∙◌, subst, inl, inr, arith, length-set, get_or-set_other}
+use Rattle.std.proofs.Common.{◌≡◌, ◌≢◌, ◌⊎◌, ℕ, ◌+◌, ◌*◌, ◌/◌, ◌<◌, ◌≤◌, Bool, true, false, List, length, refl, sym, ap, ◌∙◌, subst, inl, inr, arith, length-set, get_or-set_other}
 use Rattle.std.proofs.lemmas.List.{get_or_past}
 use Rattle.std.proofs.Math.ListN.{set}
-use Rattle.std.proofs.lemmas.Bool.{cases_Bool, cases_lt}
-use Rattle.fs_delaunay.specs.Suspects.{mark_of, HasNoMark, IsFirstMark, FindsMark, AreBlocks}
+use Rattle.std.proofs.lemmas.Bool.{cases_lt}
+use Rattle.fs_delaunay.specs.Suspects.{mark_of, HasNoMark, IsFirstMark, AreBlocks}
 
 -- a mark is there or not
 not_marked : (b : Bool) → (b ≡ true → ⊥) → b ≡ false

@@ -3,6 +3,7 @@
 ghost use Rattle.std.specs.Prelude.{◌≡◌, false, IfOk};
 ghost use Rattle.fs_gluing.specs.Triangulation.{triangulation_of};
 ghost use Rattle.fs_delaunay.specs.Runs.{IsFirstTriangulation};
+ghost use Rattle.fs_delaunay.specs.CheckedRuns.{AllPass};
 ghost use Rattle.fs_delaunay.specs.Results.{IsDelaunayValue};
 
 use fs_fraction::NoMemory;
@@ -31,6 +32,15 @@ impl<'a> Model for Delaunay<'a> {
 }
 
 impl<'a> Delaunay<'a> {
+    // The result of a run.
+    pub(crate) fn new(mesh: Mesh<'a>, edges: Sequence<u32>) -> Delaunay<'a>
+        requires { AllPass mesh.surface.d mesh.triangles }
+        ensures mesh { result.mesh ≡ mesh.entry }
+        ensures edges { result.edges ≡ edges }
+    {
+        Delaunay { mesh, edges }
+    }
+
     /// The mesh, in which each edge is legal.
     pub fn mesh(&self) -> &Mesh<'a>
         ensures mesh { result.now ≡ self.now.mesh }

@@ -2,6 +2,8 @@
 #![tactic(auto)]
 
 mod delaunay;
+mod run;
 mod suspects;
 
 pub use delaunay::{Delaunay, start};
+pub use run::find_delaunay;

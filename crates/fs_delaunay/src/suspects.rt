@@ -59,6 +59,7 @@ impl Suspects {
         requires before { HasNoMark self.old 0 from }
         ensures kept { self.new ≡ self.old }
         ensures first { FindsMark self.old 0 (length self.old) result }
+        ensures few { length self.old < 2 ^ 32 }
     {
         let h = find_first(&self.marks, &mut self.blocks, from as usize)?;
         Some(h as u32)
