@@ -1,1 +1,5 @@
 -- The proofs of fs_delaunay, by subject.
+pub mod CellJoins
+pub mod CellNumbers
+pub mod CellLists
+pub mod CellClasses

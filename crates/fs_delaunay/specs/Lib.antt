@@ -2,3 +2,4 @@
 pub mod Runs
 pub mod CheckedRuns
 pub mod Cells
+pub mod CellNumbers

@@ -1,2 +1,4 @@
 // Delaunay triangulations by flips of illegal edges, and their cells.
 #![tactic(auto)]
+
+mod cells;
