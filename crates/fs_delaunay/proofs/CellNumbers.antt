@@ -15,7 +15,8 @@ use Rattle.fs_delaunay.proofs.CellJoins.{one_cell_refl, one_cell_sym, one_cell_a
 
 -- ---- one more number
 
-some_same : (j k : ℕ) → Some j ≡ Some k → j ≡ k
+-- equal numbers that are there
+pub some_same : (j k : ℕ) → Some j ≡ Some k → j ≡ k
 some_same j k e = cc
 
 some_not_none : (numbers : List (Option ℕ)) (x y j : ℕ) → number_of numbers x ≡ Some j → number_of numbers y ≡ None → x ≢ y

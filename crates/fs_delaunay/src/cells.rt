@@ -106,11 +106,15 @@ fn cross(
     ensures crossed { OnOk result ((n to : ℕ) → AreNumbered mesh.now.surface.d mesh.now.triangles n number (number + 1) numbers.old.items waiting.old.items h to
         → AreNumbered mesh.now.surface.d mesh.now.triangles n number (number + 1) numbers.new.items waiting.new.items (h + 1) to) }
 {
-    let other = mesh.twin(h) / 3;
-    if joins_faces(mesh, h) && numbers[other as usize].is_none() {
-        numbers[other as usize] = Some(number);
-        waiting.push(other)?;
+    if !joins_faces(mesh, h) {
+        return Ok(());
     }
+    let other = mesh.twin(h) / 3;
+    if numbers[other as usize].is_some() {
+        return Ok(());
+    }
+    numbers[other as usize] = Some(number);
+    waiting.push(other)?;
     Ok(())
 }
 
@@ -157,7 +161,10 @@ fn add(
     ensures longer { OnOk result (number < length cells.old.items → cells.new.items ≡ slice_set cells.old.items number (cell_at cells.old.items number ++ face ∷ [])) }
 {
     if number as usize == cells.len() {
-        cells.push(Sequence::new(alloc))?;
+        let mut list = Sequence::new(alloc);
+        list.push(face)?;
+        cells.push(list)?;
+        return Ok(());
     }
     cells[number as usize].push(face)?;
     Ok(())
