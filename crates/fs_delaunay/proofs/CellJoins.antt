@@ -1,15 +1,18 @@
 -- Edges that join faces: the value at an edge doesn't depend on which of its half-edges names it, and faces that are joined step by step are of one cell.
-use Rattle.std.proofs.Common.{◌≡◌, ℕ, ◌/◌, ◌<◌, length, refl, sym, ap, ◌∙◌}
+use Rattle.std.proofs.Common.{◌≡◌, ℕ, ◌/◌, ◌<◌, ◌≤◌, Ok, Err, length, refl, sym, ap, ◌∙◌, subst, arith}
 use Rattle.fs_ring.proofs.Plane as plane
 use Rattle.fs_quadratic.specs.Radicand.{IsRadicand}
 use Rattle.fs_quadratic.specs.Ring.{quadratic, IsPositive}
-use Rattle.fs_quadratic.proofs.Laws.{quadratic_ring}
+use Rattle.fs_quadratic.proofs.Laws.{quadratic_ring, field_order}
+use Rattle.fs_quadratic.specs.declared.steps.Place.{Place}
 use Rattle.fs_plane.specs.Vector.{circle}
 use Rattle.fs_triangles.specs.Triangles.{AreTriangles}
-use Rattle.fs_gluing.specs.Triangulation.{Triangulation, face_sides, edge_vector, edge_twin, next_in_face, prev_in_face}
-use Rattle.fs_mesh.specs.Meshes.{edge_circle, hinge_after, hinge_before, hinge_after_twin, hinge_before_twin}
+use Rattle.fs_triangles.proofs.TriangleSides.{twin_not_self}
+use Rattle.fs_gluing.specs.Triangulation.{Triangulation, IsEdge, face_sides, edge_vector, edge_twin, next_in_face, prev_in_face}
+use Rattle.fs_mesh.specs.Meshes.{edge_circle, edge_circle_after, hinge_after, hinge_before, hinge_after_twin, hinge_before_twin}
 use Rattle.fs_mesh.proofs.HalfEdgeNumbers.{side_of_number, twin_is_below}
 use Rattle.fs_delaunay.specs.Cells.{AreJoined, AreOfOneCell}
+use Rattle.fs_delaunay.specs.CheckedRuns.{AllPass}
 use Rattle.fs_delaunay.specs.CellNumbers.{JoinsFaces}
 
 -- a face is of one cell with itself
@@ -45,3 +48,17 @@ module _ {d : ℕ} (t : Triangulation) (triangles : AreTriangles (quadratic d) (
   -- the twin of a half-edge whose edge joins its faces is one, too
   pub twin_joins : IsRadicand d → (h : ℕ) → JoinsFaces d t h → JoinsFaces d t (edge_twin t h)
   twin_joins radicand h joins = record { there = twin_is_below t triangles h joins.there; zero = circle_of_twin radicand h joins.there ∙ joins.zero }
+
+  -- the lesser of two twins names their edge
+  pub twin_names_edge : IsRadicand d → (h : ℕ) → h < length t.vectors → edge_twin t h ≤ h → IsEdge t (edge_twin t h)
+  twin_names_edge radicand h there lesser =
+      let other = twin_not_self (field_order radicand) triangles h (side_of_number t h there) in
+      let below : edge_twin t h < h = omega (arith, lesser, other) in
+      record { there = twin_is_below t triangles h there; lesser = subst (λ g. edge_twin t h < g) (sym (twin_back h there)) below }
+
+-- where all edges pass, the formula of an edge gives a value
+pub edge_not_stopped : (d : ℕ) (t : Triangulation) (e : ℕ) (place : Place) → AllPass d t → IsEdge t e → Err place ≡ edge_circle_after d t e → ⊥
+edge_not_stopped d t e place pass edge is =
+    let p = pass e edge in
+    let both : Err place ≡ Ok p.value = is ∙ p.given in
+    cc

@@ -1,9 +1,10 @@
 -- The search for cells, from its beginning to its end: each cell is numbered from its first face.
-use Rattle.std.proofs.Common.{◌≡◌, ◌≢◌, ◌⊎◌, inl, inr, ℕ, ◌+◌, ◌-◌, ◌*◌, ◌/◌, ◌<◌, ◌≤◌, Bool, true, false, not, eqb, Option, Some, None, is_none, List, [], ◌∷◌, ◌++◌, length, get_or, set, replicate, take, count_by, sym, ap, ◌∙◌, refl, subst, arith}
+use Rattle.std.proofs.Common.{◌≡◌, ◌≢◌, ◌⊎◌, inl, inr, ℕ, ◌+◌, ◌-◌, ◌*◌, ◌/◌, ◌<◌, ◌≤◌, Bool, true, false, not, eqb, Option, Some, None, List, [], ◌∷◌, ◌++◌, length, get_or, set, replicate, take, count_by, sym, ap, ◌∙◌, refl, subst, arith}
 use Rattle.std.proofs.lemmas.Bool.{cases_lt, cases_eq, eqb-true, eq-eqb}
 use Rattle.std.proofs.lemmas.List.{append-nil, get_or_past, get_or-replicate, get_or-set_same, length-append, length-replicate}
 use Rattle.std.proofs.lemmas.List.Elements.{Contains-push}
 use Rattle.std.specs.List.{Contains}
+use Rattle.std.specs.Option.{is_none, is_some}
 use Rattle.fs_quadratic.specs.Radicand.{IsRadicand}
 use Rattle.fs_quadratic.specs.Ring.{quadratic, IsPositive, zero}
 use Rattle.fs_triangles.specs.Triangles.{AreTriangles}
@@ -25,14 +26,14 @@ numbered_below numbers x j h = elim (cases_lt x (length numbers)) [
   | inr past ↦ absurd (let both : None ≡ Some j = sym (get_or_past numbers x None past) ∙ h in cc)
 ]
 
--- what isn't None is a number
-pub number_there : (o : Option ℕ) → is_none o ≡ false → (j : ℕ) × (o ≡ Some j)
-number_there None h = absurd (let same : true ≡ false = h in cc)
+-- a face has a number or none
+pub number_there : (o : Option ℕ) → is_some o ≡ true → (j : ℕ) × (o ≡ Some j)
+number_there None h = absurd (let same : false ≡ true = h in cc)
 number_there (Some j) h = (j, refl)
 
-pub number_missing : (o : Option ℕ) → is_none o ≡ true → o ≡ None
+pub number_missing : (o : Option ℕ) → is_some o ≡ false → o ≡ None
 number_missing None h = refl
-number_missing (Some j) h = absurd (let same : false ≡ true = h in cc)
+number_missing (Some j) h = absurd (let same : true ≡ false = h in cc)
 
 replicate_none : (n x : ℕ) → number_of (replicate n None) x ≡ None
 replicate_none n x = elim (cases_lt x n) [

@@ -1,5 +1,6 @@
 -- The numbers of cells as the search for cells gives them to faces, and the lists of faces that are dealt out by them. Public contracts don't cite this file.
-use Rattle.std.specs.Prelude.{◌≡◌, ◌⊎◌, ◌↔◌, ℕ, ◌+◌, ◌*◌, ◌/◌, ◌<◌, ◌≤◌, Option, Some, None, is_none, List, [], Contains, length, map, count_by, slice_index_or}
+use Rattle.std.specs.Prelude.{◌≡◌, ◌⊎◌, ◌↔◌, ℕ, ◌+◌, ◌*◌, ◌/◌, ◌<◌, ◌≤◌, Option, Some, None, List, [], Contains, length, map, count_by, slice_index_or}
+use Rattle.std.specs.Option.{is_none}
 use Rattle.fs_lists.specs.Members.{IsIn}
 use Rattle.fs_quadratic.specs.Ring.{zero}
 use Rattle.fs_gluing.specs.Triangulation.{Triangulation, edge_twin}

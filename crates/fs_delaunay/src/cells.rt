@@ -2,6 +2,7 @@
 
 ghost use Rattle.std.specs.Prelude.{◌≡◌, ◌↔◌, ◌+◌, ◌*◌, ◌<◌, ◌≤◌, ◌/◌, ◌^◌, ℕ, Some, None, IsTrue, [], ◌∷◌, ◌++◌, length, IfOk, OnOk, slice_set};
 ghost use Rattle.fs_quadratic.specs.Ring.{zero};
+ghost use Rattle.fs_gluing.specs.Triangulation.{IsEdge};
 ghost use Rattle.fs_mesh.specs.Meshes.{IsMesh, edge_circle};
 ghost use Rattle.fs_delaunay.specs.Cells.{AreCells};
 ghost use Rattle.fs_delaunay.specs.CheckedRuns.{AllPass};
@@ -125,12 +126,24 @@ fn joins_faces(mesh: &Mesh, h: u32) -> bool
     requires there { h < length mesh.now.triangles.vectors }
     ensures { IsTrue result ↔ (edge_circle mesh.now.surface.d mesh.now.triangles h ≡ zero) }
 {
-    let twin = mesh.twin(h);
-    let edge = if h < twin { h } else { twin };
-    match mesh.circle_of(edge) {
+    match mesh.circle_of(edge_of(mesh, h)) {
         Ok(value) => value == Elem::ZERO,
         Err(_) => false,
     }
+}
+
+// The lesser half-edge of the edge of a half-edge, which names the edge.
+fn edge_of(mesh: &Mesh, h: u32) -> u32
+    requires mesh { IsMesh mesh.now }
+    requires there { h < length mesh.now.triangles.vectors }
+    ensures edge { IsEdge mesh.now.triangles result }
+    ensures circle { edge_circle mesh.now.surface.d mesh.now.triangles result ≡ edge_circle mesh.now.surface.d mesh.now.triangles h }
+{
+    let twin = mesh.twin(h);
+    if h < twin {
+        return h;
+    }
+    twin
 }
 
 // For each number the list of its faces.

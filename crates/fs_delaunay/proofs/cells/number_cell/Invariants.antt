@@ -1,5 +1,6 @@
 -- The cell's faces so far have its number; a visit lowers the number of faces that wait plus that of faces without a number.
-use Rattle.std.proofs.Common.{◌≡◌, ◌+◌, Some, is_none, length, count_by}
+use Rattle.std.proofs.Common.{◌≡◌, ◌+◌, Some, length, count_by}
+use Rattle.std.specs.Option.{is_none}
 use Rattle.fs_delaunay.specs.CellNumbers.{number_of, AreNumbered}
 use Rattle.fs_delaunay.proofs.cells.number_cell.Given as goal
 
