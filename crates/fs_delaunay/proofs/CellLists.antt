@@ -1,7 +1,7 @@
 -- Faces are dealt out to lists by their numbers, in order.
-use Rattle.std.proofs.Common.{◌≡◌, ◌≢◌, ◌⊎◌, inl, inr, ℕ, zero, suc, ◌+◌, ◌<◌, ◌≤◌, Option, Some, None, List, [], ◌∷◌, ◌++◌, length, map, get_or, set, sym, ap, ◌∙◌, refl, subst, arith}
+use Rattle.std.proofs.Common.{◌≡◌, ◌≢◌, ◌⊎◌, ◌↔◌, inl, inr, ℕ, zero, suc, ◌+◌, ◌<◌, ◌≤◌, Option, Some, None, List, [], ◌∷◌, ◌++◌, length, map, get_or, set, sym, ap, ◌∙◌, refl, subst, arith}
 use Rattle.std.proofs.lemmas.Bool.{cases_lt, cases_eq}
-use Rattle.std.proofs.lemmas.List.{get_or-set_same, get_or-set_other, get_or_append_left, get_or-append_seam, length-set, length-append, length-map, map-append, map-set, set-get_or, get_or-map}
+use Rattle.std.proofs.lemmas.List.{get_or-set_same, get_or-set_other, get_or_append_left, get_or-append-add, length-set, length-append, length-map, map-append, map-set, set-get_or, get_or-map}
 use Rattle.std.specs.List.{AllByRecursion}
 use Rattle.fs_lists.specs.Members.{IsIn}
 use Rattle.fs_lists.proofs.Members.{in_append_left, in_append_right, in_append_cases, in_map_cases}
@@ -134,7 +134,7 @@ module _ (numbers : List (Option ℕ)) where
       long_next = length-append cells ((n ∷ []) ∷ [])
 
       here_next : cell_at (cells ++ (n ∷ []) ∷ []) (length cells) ≡ n ∷ []
-      here_next = get_or-append_seam cells (n ∷ []) [] []
+      here_next = let e : length cells ≡ length cells + 0 = omega arith in ap (cell_at (cells ++ (n ∷ []) ∷ [])) e ∙ get_or-append-add cells ((n ∷ []) ∷ []) 0 []
 
       at_each_next : (P : ℕ → List ℕ → Type 0) → P k (n ∷ []) → ((j : ℕ) → j ≢ k → j < length cells → P j (cell_at cells j)) → (j : ℕ) → j < length (cells ++ (n ∷ []) ∷ []) → P j (cell_at (cells ++ (n ∷ []) ∷ []) j)
       at_each_next P p ps j b = elim (cases_lt j (length cells)) [
@@ -164,3 +164,15 @@ module _ (numbers : List (Option ℕ)) where
         ascending = at_each_next (λ i xs. IsAscending xs) (tt, tt) (λ i o c. a.ascending i c);
         in_order = subst IsAscending (sym (map-append first_of cells ((n ∷ []) ∷ []))) (ascending_more (map first_of cells) n a.in_order firsts_below);
       }
+
+-- one more face is dealt out: its list is longer, or is the next one
+pub dealt_more : (numbers : List (Option ℕ)) (n k : ℕ) (cells more : List (List ℕ)) → AreDealt numbers n cells → number_of numbers n ≡ Some k
+    → ((x j i : ℕ) → number_of numbers x ≡ Some j → i < j → (y : ℕ) × y < x × (number_of numbers y ≡ Some i))
+    → (k ≡ length cells → more ≡ cells ++ (n ∷ []) ∷ []) → (k < length cells → more ≡ set cells k (cell_at cells k ++ n ∷ [])) → AreDealt numbers (n + 1) more
+dealt_more numbers n k cells more a is order next longer = elim (cases_lt k (length cells)) [
+  | inl l ↦ subst (AreDealt numbers (n + 1)) (sym (longer l)) (dealt_longer numbers n k cells a is l)
+  | inr past ↦
+      let there = list_there numbers n k cells a is order in
+      let e : k ≡ length cells = omega (arith, past, there) in
+      subst (AreDealt numbers (n + 1)) (sym (next e)) (dealt_next numbers n k cells a is e)
+]

@@ -1,7 +1,7 @@
 -- The search for cells, from its beginning to its end: each cell is numbered from its first face.
 use Rattle.std.proofs.Common.{◌≡◌, ◌≢◌, ◌⊎◌, inl, inr, ℕ, ◌+◌, ◌-◌, ◌*◌, ◌/◌, ◌<◌, ◌≤◌, Bool, true, false, not, eqb, Option, Some, None, List, [], ◌∷◌, ◌++◌, length, get_or, set, replicate, take, count_by, sym, ap, ◌∙◌, refl, subst, arith}
 use Rattle.std.proofs.lemmas.Bool.{cases_lt, cases_eq, eqb-true, eq-eqb}
-use Rattle.std.proofs.lemmas.List.{append-nil, get_or_past, get_or-replicate, get_or-set_same, length-append, length-replicate}
+use Rattle.std.proofs.lemmas.List.{append-nil, get_or_default, get_or_past, get_or-replicate, get_or-set_same, length-append, length-replicate}
 use Rattle.std.proofs.lemmas.List.Elements.{Contains-push}
 use Rattle.std.specs.List.{Contains}
 use Rattle.std.specs.Option.{is_none, is_some}
@@ -38,7 +38,7 @@ number_missing (Some j) h = absurd (let same : true ≡ false = h in cc)
 replicate_none : (n x : ℕ) → number_of (replicate n None) x ≡ None
 replicate_none n x = elim (cases_lt x n) [
   | inl l ↦ get_or-replicate n x None None l
-  | inr past ↦ get_or_past (replicate n None) x None (omega (arith, past, length-replicate n (None {T = ℕ})))
+  | inr past ↦ get_or_past (replicate n None) x None (let none : Option ℕ = None in omega (arith, past, length-replicate n none))
 ]
 
 -- the test whether a number is j
@@ -47,9 +47,11 @@ has_number j None = false
 has_number j (Some i) = eqb i j
 
 has_number_true : (j : ℕ) (o : Option ℕ) → o ≡ Some j → has_number j o ≡ true
+unfolding has_number
 has_number_true j o e = ap (has_number j) e ∙ eq-eqb j j refl
 
 number_of_test : (j : ℕ) (o : Option ℕ) → has_number j o ≡ true → o ≡ Some j
+unfolding has_number
 number_of_test j None h = absurd (let same : false ≡ true = h in cc)
 number_of_test j (Some i) h = ap (λ n. Some n) (eqb-true i j h)
 
@@ -64,7 +66,7 @@ module _ {d : ℕ} {t : Triangulation} where
   numbered_none n e =
       let never : (x j : ℕ) → number_of (replicate n None) x ≡ Some j → ⊥ = λ x j h. (let both : None ≡ Some j = sym (replicate_none n x) ∙ h in cc) in
       record {
-        long = ap (λ i. 3 * i) (length-replicate n (None {T = ℕ})) ∙ e;
+        long = let none : Option ℕ = None in ap (λ i. 3 * i) (length-replicate n none) ∙ e;
         below = λ x l. absurd (omega (arith, l));
         small = λ x j h. absurd (never x j h);
         used = λ i l. absurd (omega (arith, l));
@@ -197,6 +199,19 @@ module _ {d : ℕ} {t : Triangulation} where
         let kept = (get_number numbers y k there fresh waiting).kept (h / 3) k here in
         half_edge_crossed n k (k + 1) (set numbers y (Some k)) (waiting ++ y ∷ []) h to more (λ j again is. get_or-set_same numbers y (Some k) None there ∙ sym kept ∙ is)
 
+    -- the same where the twin is read
+    pub crossed_new_at : (n k : ℕ) (numbers : List (Option ℕ)) (waiting longer : List ℕ) (h to twin : ℕ) → twin ≡ edge_twin t h → JoinsFaces d t h → number_of numbers (h / 3) ≡ Some k → twin / 3 < length numbers
+        → number_of numbers (twin / 3) ≡ None → longer ≡ waiting ++ (twin / 3) ∷ [] → AreNumbered d t n k (k + 1) numbers waiting h to
+        → AreNumbered d t n k (k + 1) (set numbers (twin / 3) (Some k)) longer (h + 1) to
+    crossed_new_at n k numbers waiting longer h to twin is joins here there fresh longer_is a =
+        subst (λ w. AreNumbered d t n k (k + 1) (set numbers (twin / 3) (Some k)) w (h + 1) to) (sym longer_is)
+        (subst (λ g. g / 3 < length numbers → number_of numbers (g / 3) ≡ None → AreNumbered d t n k (k + 1) (set numbers (g / 3) (Some k)) (waiting ++ (g / 3) ∷ []) (h + 1) to) (sym is)
+        (λ l f. crossed_new n k numbers waiting h to joins here l f a) there fresh)
+
+-- a number that is read at its index
+pub number_read : (numbers : List (Option ℕ)) (x : ℕ) (o : Option ℕ) → x < length numbers → o ≡ get_or numbers x o → number_of numbers x ≡ o
+number_read numbers x o there read = get_or_default numbers x None o there ∙ sym read
+
 -- the face across a half-edge is there
 pub face_across_below : (t : Triangulation) (numbers : List (Option ℕ)) (twin : ℕ) → 3 * length numbers ≡ length t.vectors → twin < length t.vectors → twin / 3 < length numbers
 face_across_below t numbers twin long l = omega (arith, long, l)
@@ -205,3 +220,7 @@ face_across_below t numbers twin long l = omega (arith, long, l)
 pub search_falls : (face : ℕ) (numbers more : List (Option ℕ)) (waiting rest longer : List ℕ) → waiting ≡ rest ++ face ∷ [] → GetNumbers numbers more rest longer
     → length longer + count_by is_none more < length waiting + count_by is_none numbers
 search_falls face numbers more waiting rest longer is get = let count = get.count in omega (arith, count, ap length is, length-append rest (face ∷ []))
+
+-- a face before the end is there
+pub numbers_below_end : {d : ℕ} {t : Triangulation} (n k m faces x : ℕ) (numbers : List (Option ℕ)) → AreNumbered d t n k m numbers [] 0 0 → 3 * faces ≡ length t.vectors → x < faces → x < length numbers
+numbers_below_end n k m faces x numbers a e l = let long = a.long in omega (arith, long, e, l)

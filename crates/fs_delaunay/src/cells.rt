@@ -1,6 +1,6 @@
 // The cells of a triangulation: the classes of faces that are joined by edges of circle value 0.
 
-ghost use Rattle.std.specs.Prelude.{◌≡◌, ◌↔◌, ◌+◌, ◌*◌, ◌<◌, ◌≤◌, ◌/◌, ◌^◌, ℕ, Some, None, IsTrue, [], ◌∷◌, ◌++◌, length, IfOk, OnOk, slice_set};
+ghost use Rattle.std.specs.Prelude.{◌≡◌, ◌↔◌, ◌+◌, ◌*◌, ◌<◌, ◌≤◌, ◌/◌, ◌^◌, ℕ, Some, None, IsTrue, [], ◌∷◌, ◌++◌, length, replicate, IfOk, OnOk, slice_set};
 ghost use Rattle.fs_quadratic.specs.Ring.{zero};
 ghost use Rattle.fs_gluing.specs.Triangulation.{IsEdge};
 ghost use Rattle.fs_mesh.specs.Meshes.{IsMesh, edge_circle};
@@ -33,13 +33,24 @@ fn number_faces(alloc: Global, mesh: &Mesh) -> Result<Vec<Option<u32>>, AllocErr
     ensures few { IfOk result (λ numbers. length numbers.items < 2 ^ 32) }
 {
     let faces = mesh.faces();
-    let mut numbers = vec![in alloc; None; faces as usize]?;
+    let mut numbers = no_numbers(alloc, faces)?;
     let mut count = 0u32;
     for face in 0..faces {
         if numbers[face as usize].is_none() {
             number_cell(alloc, mesh, face, count, &mut numbers)?;
             count += 1;
         }
+    }
+    Ok(numbers)
+}
+
+// No numbers yet, for so many faces.
+fn no_numbers(alloc: Global, faces: u32) -> Result<Vec<Option<u32>>, AllocError>
+    ensures { IfOk result (λ numbers. numbers.items ≡ replicate faces None) }
+{
+    let mut numbers = Vec::with_capacity(alloc, faces as usize)?;
+    for _face in 0..faces {
+        numbers.push(None)?;
     }
     Ok(numbers)
 }
@@ -127,9 +138,16 @@ fn joins_faces(mesh: &Mesh, h: u32) -> bool
     ensures { IsTrue result ↔ (edge_circle mesh.now.surface.d mesh.now.triangles h ≡ zero) }
 {
     match mesh.circle_of(edge_of(mesh, h)) {
-        Ok(value) => value == Elem::ZERO,
+        Ok(value) => is_zero(value),
         Err(_) => false,
     }
+}
+
+// Whether a number is 0.
+fn is_zero(x: Elem) -> bool
+    ensures { IsTrue result ↔ (x ≡ zero) }
+{
+    x == Elem::ZERO
 }
 
 // The lesser half-edge of the edge of a half-edge, which names the edge.
@@ -155,8 +173,9 @@ fn deal(alloc: Global, numbers: &[Option<u32>]) -> Result<Vec<Sequence<u32>>, Al
 {
     let mut cells = Vec::new(alloc);
     for (face, number) in numbers.iter().enumerate() {
-        if let Some(number) = *number {
-            add(alloc, &mut cells, number, face as u32)?;
+        match *number {
+            Some(number) => add(alloc, &mut cells, number, face as u32)?,
+            None => {}
         }
     }
     Ok(cells)

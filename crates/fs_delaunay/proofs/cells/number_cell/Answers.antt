@@ -1,5 +1,4 @@
 -- The faces that wait are visited one after another.
-use Rattle.std.proofs.Common.{ap}
 use Rattle.fs_delaunay.proofs.CellSearch.{search_starts, waiting_numbered, search_more, search_ends, search_falls}
 use Rattle.fs_delaunay.proofs.cells.number_cell.Goals as goal
 
@@ -19,4 +18,4 @@ pub loop-face-preserved : goal.loop-face-preserved
 loop-face-preserved c = search_more _ _ c.in-Some.face _ _ _ _ _ c.in-Some.ensures.items c.loop-face.invariant.0 c.loop-face.invariant.1 c.in_ok-visit.ensures.numbers c.in_ok-visit.ensures.visited
 
 pub returns : goal.returns
-returns c = search_ends _ _ _ _ _ _ c.in_default.ensures.items c.in_default.ensures.rest c.in_default.ensures.cases.0 c.loop-face.invariant.0 c.loop-face.invariant.1
+returns c = record { after = search_ends _ _ _ _ _ _ c.in_default.ensures.items c.in_default.ensures.rest c.in_default.ensures.cases.0 c.loop-face.invariant.0 c.loop-face.invariant.1 }
