@@ -1,13 +1,11 @@
 -- The lists that are dealt out by the numbers of cells are the cells.
-use Rattle.std.proofs.Common.{◌≡◌, ◌⊎◌, ◌↔◌, inl, inr, ℕ, ◌*◌, ◌/◌, ◌<◌, Bool, true, false, eqb, Option, Some, None, List, [], length, get_or, sym, ap, ◌∙◌, refl, subst, arith}
-use Rattle.std.proofs.lemmas.Bool.{eqb-true, eq-eqb}
+use Rattle.std.proofs.Common.{◌↔◌, ℕ, ◌<◌, Option, List, [], length, sym, subst, arith}
 use Rattle.std.proofs.lemmas.Option.{slice_get_within, get_or_from_slice_get}
-use Rattle.std.specs.List.{AllByRecursion}
 use Rattle.fs_lists.specs.Members.{IsIn}
 use Rattle.fs_lists.proofs.All.{All-of_each}
 use Rattle.fs_gluing.specs.Triangulation.{Triangulation}
 use Rattle.fs_delaunay.specs.Cells.{AreOfOneCell, AreCells, IsAscending, first_of, IsFace}
-use Rattle.fs_delaunay.specs.CellNumbers.{number_of, cell_at, AreCellNumbers, AreDealt}
+use Rattle.fs_delaunay.specs.CellNumbers.{cell_at, AreCellNumbers, AreDealt}
 use Rattle.fs_delaunay.proofs.CellLists.{index_of, cell_in}
 
 module _ {d : ℕ} {t : Triangulation} (numbers : List (Option ℕ)) (cells : List (List ℕ)) (a : AreCellNumbers d t numbers) (b : AreDealt numbers (length numbers) cells) where

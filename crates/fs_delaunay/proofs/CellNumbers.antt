@@ -1,18 +1,15 @@
 -- The search for cells: faces get numbers one after another.
-use Rattle.std.proofs.Common.{◌≡◌, ◌≢◌, ◌⊎◌, inl, inr, ℕ, ◌+◌, ◌*◌, ◌/◌, ◌<◌, ◌≤◌, Option, Some, None, List, [], ◌∷◌, ◌++◌, length, get_or, set, count_by, cond, sym, ap, ◌∙◌, refl, subst, arith}
+use Rattle.std.proofs.Common.{◌≡◌, ◌≢◌, ◌⊎◌, inl, inr, ℕ, ◌+◌, ◌*◌, ◌/◌, ◌<◌, ◌≤◌, Option, Some, None, List, [], ◌∷◌, ◌++◌, length, set, count_by, cond, sym, ap, ◌∙◌, refl, subst, arith}
 use Rattle.std.proofs.lemmas.Bool.{cases_lt, cases_eq}
-use Rattle.std.proofs.lemmas.List.{get_or-set_same, get_or-set_other, get_or_past, length-set, length-append}
+use Rattle.std.proofs.lemmas.List.{get_or-set_same, get_or-set_other, length-set, length-append}
 use Rattle.std.proofs.lemmas.List.Elements.{Contains-append_left, Contains-push, Contains-push_cases}
 use Rattle.std.proofs.lemmas.List.Sums.{sum_by-set}
 use Rattle.std.specs.List.{Contains}
 use Rattle.std.specs.Option.{is_none}
-use Rattle.fs_quadratic.specs.Radicand.{IsRadicand}
-use Rattle.fs_quadratic.specs.Ring.{quadratic, IsPositive}
-use Rattle.fs_triangles.specs.Triangles.{AreTriangles}
-use Rattle.fs_gluing.specs.Triangulation.{Triangulation, face_sides, edge_twin}
+use Rattle.fs_gluing.specs.Triangulation.{Triangulation, edge_twin}
 use Rattle.fs_delaunay.specs.Cells.{AreOfOneCell}
-use Rattle.fs_delaunay.specs.CellNumbers.{number_of, JoinsFaces, IsPending, AreNumbered, GetNumbers}
-use Rattle.fs_delaunay.proofs.CellJoins.{one_cell_refl, one_cell_sym, one_cell_across, twin_joins}
+use Rattle.fs_delaunay.specs.CellNumbers.{number_of, JoinsFaces, AreNumbered, GetNumbers}
+use Rattle.fs_delaunay.proofs.CellJoins.{one_cell_refl, one_cell_sym}
 
 -- ---- one more number
 

@@ -1,6 +1,6 @@
 -- The search for cells, from its beginning to its end: each cell is numbered from its first face.
-use Rattle.std.proofs.Common.{◌≡◌, ◌≢◌, ◌⊎◌, inl, inr, ℕ, ◌+◌, ◌-◌, ◌*◌, ◌/◌, ◌<◌, ◌≤◌, Bool, true, false, not, eqb, Option, Some, None, List, [], ◌∷◌, ◌++◌, length, get_or, set, replicate, take, count_by, sym, ap, ◌∙◌, refl, subst, arith}
-use Rattle.std.proofs.lemmas.Bool.{cases_lt, cases_eq, eqb-true, eq-eqb}
+use Rattle.std.proofs.Common.{◌≡◌, inl, inr, ℕ, ◌+◌, ◌-◌, ◌*◌, ◌/◌, ◌<◌, Bool, true, false, eqb, Option, Some, None, List, [], ◌∷◌, ◌++◌, length, get_or, set, replicate, take, count_by, sym, ap, ◌∙◌, refl, subst, arith}
+use Rattle.std.proofs.lemmas.Bool.{cases_lt, eqb-true, eq-eqb}
 use Rattle.std.proofs.lemmas.List.{append-nil, get_or_default, get_or_past, get_or-replicate, get_or-set_same, length-append, length-replicate}
 use Rattle.std.proofs.lemmas.List.Elements.{Contains-push}
 use Rattle.std.specs.List.{Contains}
@@ -11,7 +11,7 @@ use Rattle.fs_triangles.specs.Triangles.{AreTriangles}
 use Rattle.fs_gluing.specs.Triangulation.{Triangulation, face_sides, edge_twin}
 use Rattle.fs_mesh.specs.Meshes.{edge_circle}
 use Rattle.fs_mesh.proofs.HalfEdgeNumbers.{side_of_number}
-use Rattle.fs_delaunay.specs.Cells.{AreOfOneCell, AreJoined}
+use Rattle.fs_delaunay.specs.Cells.{AreJoined}
 use Rattle.fs_delaunay.specs.CellNumbers.{number_of, JoinsFaces, AreNumbered, GetNumbers, AreCellNumbers}
 use Rattle.fs_delaunay.proofs.CellJoins.{one_cell_across, twin_joins}
 use Rattle.fs_delaunay.proofs.CellNumbers.{numbered_more, half_edge_crossed, face_taken, get_number}
@@ -131,14 +131,14 @@ module _ {d : ℕ} {t : Triangulation} where
           | inr c ↦ c
         ] in
         let back : (h j : ℕ) → JoinsFaces d t h → number_of numbers (edge_twin t h / 3) ≡ Some j → number_of numbers (h / 3) ≡ Some j = λ h j joins is.
-            ap (λ g. number_of numbers (g / 3)) (sym (triangles.twin_twin h (side_of_number t h joins.there))) ∙ across (edge_twin t h) j (twin_joins t triangles radicand h joins) is in
+        ap (λ g. number_of numbers (g / 3)) (sym (triangles.twin_twin h (side_of_number t h joins.there))) ∙ across (edge_twin t h) j (twin_joins t triangles radicand h joins) is in
         let step : (j u v : ℕ) → AreJoined d t u v → has_number j (number_of numbers u) ≡ has_number j (number_of numbers v) = λ j u v w.
-            let joins : JoinsFaces d t w.half_edge = record { there = w.side.there; zero = w.zero } in
-            subst (λ x. has_number j (number_of numbers x) ≡ has_number j (number_of numbers v)) w.side.of
-            (subst (λ y. has_number j (number_of numbers (w.half_edge / 3)) ≡ has_number j (number_of numbers y)) w.twin.of
-            (same_test (has_number j (number_of numbers (w.half_edge / 3))) (has_number j (number_of numbers (edge_twin t w.half_edge / 3)))
-            (λ h. has_number_true j (number_of numbers (edge_twin t w.half_edge / 3)) (across w.half_edge j joins (number_of_test j (number_of numbers (w.half_edge / 3)) h)))
-            (λ h. has_number_true j (number_of numbers (w.half_edge / 3)) (back w.half_edge j joins (number_of_test j (number_of numbers (edge_twin t w.half_edge / 3)) h))))) in
+        let joins : JoinsFaces d t w.half_edge = record { there = w.side.there; zero = w.zero } in
+        subst (λ x. has_number j (number_of numbers x) ≡ has_number j (number_of numbers v)) w.side.of
+        (subst (λ y. has_number j (number_of numbers (w.half_edge / 3)) ≡ has_number j (number_of numbers y)) w.twin.of
+        (same_test (has_number j (number_of numbers (w.half_edge / 3))) (has_number j (number_of numbers (edge_twin t w.half_edge / 3)))
+        (λ h. has_number_true j (number_of numbers (edge_twin t w.half_edge / 3)) (across w.half_edge j joins (number_of_test j (number_of numbers (w.half_edge / 3)) h)))
+        (λ h. has_number_true j (number_of numbers (w.half_edge / 3)) (back w.half_edge j joins (number_of_test j (number_of numbers (edge_twin t w.half_edge / 3)) h))))) in
         record {
           long = a.long;
           each = λ x l. a.below x (omega (arith, l, all));

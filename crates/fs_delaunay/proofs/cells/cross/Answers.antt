@@ -3,7 +3,6 @@ use Rattle.std.proofs.Common.{◌≡◌, ◌+◌, ◌/◌, true, false, Some, se
 use Rattle.fs_delaunay.specs.CellNumbers.{GetNumbers, JoinsFaces}
 use Rattle.fs_delaunay.proofs.CellNumbers.{get_number}
 use Rattle.fs_delaunay.proofs.CellSearch.{crossed_apart, crossed_seen, crossed_new_at, number_there, number_missing, number_read, face_across_below}
-use Rattle.fs_gluing.specs.Triangulation.{edge_twin}
 use Rattle.fs_delaunay.specs.CellNumbers.{number_of}
 use Rattle.fs_delaunay.proofs.cells.cross.Goals as goal
 

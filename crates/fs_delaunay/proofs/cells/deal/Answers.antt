@@ -1,5 +1,5 @@
 -- The faces are dealt out in order.
-use Rattle.std.proofs.Common.{◌≡◌, ◌+◌, Some, None, length, sym, ap, ◌∙◌, subst}
+use Rattle.std.proofs.Common.{◌≡◌, ◌+◌, Some, None, sym, ap, ◌∙◌, subst}
 use Rattle.fs_delaunay.specs.CellNumbers.{AreDealt}
 use Rattle.fs_delaunay.proofs.CellLists.{list_there, dealt_more}
 use Rattle.fs_delaunay.proofs.cells.deal.Goals as goal

@@ -1,7 +1,6 @@
 -- The faces get numbers in order.
-use Rattle.std.proofs.Common.{◌≡◌, ◌+◌, ◌≤◌, [], None, not, replicate, length, sym, ap, ◌∙◌, subst, arith}
-use Rattle.std.proofs.lemmas.List.{length-replicate}
-use Rattle.fs_delaunay.specs.CellNumbers.{number_of, AreNumbered}
+use Rattle.std.proofs.Common.{◌≡◌, ◌+◌, [], not, length, sym, ap, ◌∙◌, subst, arith}
+use Rattle.fs_delaunay.specs.CellNumbers.{AreNumbered}
 use Rattle.fs_delaunay.proofs.CellSearch.{numbered_none, face_passed, numbers_done, number_there, number_read, numbers_below_end}
 use Rattle.fs_delaunay.proofs.cells.number_faces.Goals as goal
 use Rattle.fs_delaunay.proofs.cells.number_faces.Goals.{then-is_none+in_ok-number_cell, else-is_none}
@@ -19,7 +18,7 @@ loop-face-preserved c =
       | then-is_none+in_ok-number_cell w ↦
           let more = w.count-is in (
             subst (λ k. AreNumbered c.args.mesh.now.surface.d c.args.mesh.now.triangles (c.loop-face.face + 1) k k c.if-is_none.numbers.items [] 0 0) (sym w.count-is)
-            (subst (λ ns. AreNumbered c.args.mesh.now.surface.d c.args.mesh.now.triangles (c.loop-face.face + 1) (c.loop-face.count + 1) (c.loop-face.count + 1) ns [] 0 0) (sym (ap (λ v. v.items) w.numbers-is)) w.in_ok-number_cell.ensures.after),
+                (subst (λ ns. AreNumbered c.args.mesh.now.surface.d c.args.mesh.now.triangles (c.loop-face.face + 1) (c.loop-face.count + 1) (c.loop-face.count + 1) ns [] 0 0) (sym (ap (λ v. v.items) w.numbers-is)) w.in_ok-number_cell.ensures.after),
             omega (arith, more, few),
           )
       | else-is_none w ↦
@@ -28,8 +27,8 @@ loop-face-preserved c =
           let r = number_there c.index.result.now (c.is_none.ensures ∙ ap not w.if-is_none.false) in
           let here = number_read c.loop-face.numbers.items c.loop-face.face c.index.result.now below c.index.ensures ∙ r.1 in (
             subst (λ k. AreNumbered c.args.mesh.now.surface.d c.args.mesh.now.triangles (c.loop-face.face + 1) k k c.if-is_none.numbers.items [] 0 0) (sym w.count-is)
-            (subst (λ ns. AreNumbered c.args.mesh.now.surface.d c.args.mesh.now.triangles (c.loop-face.face + 1) c.loop-face.count c.loop-face.count ns [] 0 0) (sym (ap (λ v. v.items) w.numbers-is))
-            (face_passed c.loop-face.face c.loop-face.count r.0 c.loop-face.numbers.items c.loop-face.invariant.0 here)),
+                (subst (λ ns. AreNumbered c.args.mesh.now.surface.d c.args.mesh.now.triangles (c.loop-face.face + 1) c.loop-face.count c.loop-face.count ns [] 0 0) (sym (ap (λ v. v.items) w.numbers-is))
+                (face_passed c.loop-face.face c.loop-face.count r.0 c.loop-face.numbers.items c.loop-face.invariant.0 here)),
             omega (arith, same, few),
           )
     ]
