@@ -10,3 +10,8 @@ pub mod SuspectsAfterFlip
 pub mod SuspectSearch
 pub mod RunSteps
 pub mod RunsUnderWay
+pub mod CellJoins
+pub mod CellNumbers
+pub mod CellSearch
+pub mod CellLists
+pub mod CellClasses

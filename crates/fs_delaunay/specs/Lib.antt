@@ -5,3 +5,4 @@ pub mod Cells
 pub mod Suspects
 pub mod Steps
 pub mod Results
+pub mod CellNumbers

@@ -4,8 +4,10 @@ ghost use Rattle.std.specs.Prelude.{◌≡◌, false, IfOk};
 ghost use Rattle.fs_gluing.specs.Triangulation.{triangulation_of};
 ghost use Rattle.fs_delaunay.specs.Runs.{IsFirstTriangulation};
 ghost use Rattle.fs_delaunay.specs.CheckedRuns.{AllPass};
+ghost use Rattle.fs_delaunay.specs.Cells.{AreCells};
 ghost use Rattle.fs_delaunay.specs.Results.{IsDelaunayValue};
 
+use crate::classes::find_cells;
 use fs_fraction::NoMemory;
 use fs_gluing::{Sequence, Surface};
 use fs_mesh::Mesh;
@@ -66,4 +68,13 @@ pub fn start<'a>(alloc: Global, surface: &'a Surface) -> Result<Mesh<'a>, NoMemo
 {
     let triangles = fan_cut(alloc, surface)?;
     Mesh::new(alloc, surface, triangles)
+}
+
+/// The cells of a Delaunay triangulation: the classes of faces that are joined by edges of circle value 0, each
+/// ascending, in the order of their first faces. It is refused only where memory runs out. Its cost is linear in the
+/// faces.
+pub fn cells(alloc: Global, delaunay: &Delaunay<'_>) -> Result<Sequence<Sequence<u32>>, NoMemory>
+    ensures cells { IfOk result (λ cells. AreCells delaunay.now.mesh.surface.d delaunay.now.mesh.triangles cells) }
+{
+    find_cells(alloc, delaunay.mesh())
 }
