@@ -144,7 +144,7 @@ impl<'a> Mesh<'a> {
         ensures surface { self.new.surface ≡ self.old.surface }
         ensures flipped { OnOk result (IsFlipOf self.old.surface.d self.old.triangles edge self.new.triangles) }
         // One cut undone and one cut lead to the new faces.
-        ensures steps { OnOk result (ArePastedAndCut self.old.surface.d self.old.triangles self.new.triangles) }
+        ensures steps { OnOk result (ArePastedAndCut self.old.surface.d self.old.triangles edge self.new.triangles) }
         ensures refused { MatchResult result (λ _. IsOk (flipped_vector self.old.triangles edge)) (λ place. flipped_vector self.old.triangles edge ≡ Err place) }
         ensures unchanged { OnErr result (self.new ≡ self.old) }
     {
