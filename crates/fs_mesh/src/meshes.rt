@@ -40,7 +40,8 @@ impl<'a> Model for Mesh<'a> {
 
 impl<'a> Mesh<'a> {
     /// The mesh of a surface with these triangles, into which it is cut. The corners at which their half-edges
-    /// begin aren't kept. Its cost is linear in the number of triangles.
+    /// begin aren't kept. It is refused only where memory runs out. Its cost is linear in the number of
+    /// triangles.
     pub fn new(
         alloc: Global,
         surface: &'a Surface,
