@@ -40,7 +40,8 @@ impl<'a> Model for Mesh<'a> {
 
 impl<'a> Mesh<'a> {
     /// The mesh of a surface with these triangles, into which it is cut. The corners at which their half-edges
-    /// begin aren't kept. Its cost is linear in the number of triangles.
+    /// begin aren't kept. It is refused only where memory runs out. Its cost is linear in the number of
+    /// triangles.
     pub fn new(
         alloc: Global,
         surface: &'a Surface,
@@ -144,7 +145,7 @@ impl<'a> Mesh<'a> {
         ensures surface { self.new.surface ≡ self.old.surface }
         ensures flipped { OnOk result (IsFlipOf self.old.surface.d self.old.triangles edge self.new.triangles) }
         // One cut undone and one cut lead to the new faces.
-        ensures steps { OnOk result (ArePastedAndCut self.old.surface.d self.old.triangles self.new.triangles) }
+        ensures steps { OnOk result (ArePastedAndCut self.old.surface.d self.old.triangles edge self.new.triangles) }
         ensures refused { MatchResult result (λ _. IsOk (flipped_vector self.old.triangles edge)) (λ place. flipped_vector self.old.triangles edge ≡ Err place) }
         ensures unchanged { OnErr result (self.new ≡ self.old) }
     {
