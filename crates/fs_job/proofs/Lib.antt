@@ -2,6 +2,7 @@ pub mod ByteTests
 pub mod TextPieces
 pub mod TextLines
 pub mod TextWords
+pub mod CornerTexts
 pub mod Pairs
 pub mod StatementWords
 pub mod NumberTexts

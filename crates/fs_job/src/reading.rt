@@ -16,7 +16,7 @@ use crate::drafts::{Stage, add_line, begin};
 use crate::job::{Job, JobStop};
 use crate::lines::next_line;
 use crate::statements::{is_header, read_line};
-use crate::words::{is_text, next_word};
+use crate::words::{is_blank_text, is_text};
 use fs_gluing::Fault;
 use std::alloc::Global;
 
@@ -44,7 +44,7 @@ fn step(alloc: Global, stage: Stage, number: u32, line: &[u8]) -> Result<Stage, 
     if !is_text(line) {
         return Err(JobStop::Fault(Fault::NotAscii { line: number }));
     }
-    if next_word(line).is_none() {
+    if is_blank_text(line) {
         return Ok(stage);
     }
     match stage {

@@ -81,6 +81,13 @@ fn split_word(text: &[u8]) -> (&[u8], &[u8])
     (text, &[])
 }
 
+// Whether a text has no words.
+pub fn is_blank_text(text: &[u8]) -> bool
+    ensures { IsTrue result ↔ (words_of text.now ≡ []) }
+{
+    skip_blanks(text).is_empty()
+}
+
 // The first word of a text, and what follows it.
 pub fn next_word(text: &[u8]) -> Option<(&[u8], &[u8])>
     ensures { MatchOption result
@@ -102,8 +109,9 @@ pub fn only_word(text: &[u8]) -> Option<&[u8]>
         (λ word. words_of text.now ≡ word.now ∷ []) }
 {
     let (word, rest) = next_word(text)?;
-    match next_word(rest) {
-        Some(_) => None,
-        None => Some(word),
+    if is_blank_text(rest) {
+        Some(word)
+    } else {
+        None
     }
 }
