@@ -154,14 +154,14 @@ fn add_side(text: &mut String, corner: Corner) -> Result<(), AllocError>
     ensures { OnOk result (string_bytes text.new ≡ string_bytes text.old ++ (codes " " ++ corner_text corner)) }
 {
     text.push(' ')?;
-    add_number(text, corner.polygon)?;
+    add_decimal(text, corner.polygon)?;
     text.push('.')?;
-    add_number(text, corner.side)
+    add_decimal(text, corner.side)
 }
 
 // Adds a number in decimal digits. Most numbers of sides have one: it takes no formatting.
 #[inline]
-fn add_number(text: &mut String, n: u16) -> Result<(), AllocError>
+fn add_decimal(text: &mut String, n: u16) -> Result<(), AllocError>
     ensures { OnOk result (string_bytes text.new ≡ string_bytes text.old ++ decimal n) }
 {
     if n < 10 {
