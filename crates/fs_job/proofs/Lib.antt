@@ -1,6 +1,7 @@
 pub mod ByteTests
 pub mod TextPieces
 pub mod TextLines
+pub mod LineBytes
 pub mod TextWords
 pub mod CornerTexts
 pub mod Pairs
