@@ -119,6 +119,8 @@ impl<'a> Mesh<'a> {
         requires { IsEdge self.now.triangles edge }
         ensures formula { result ≡ edge_circle_after self.now.surface.d self.now.triangles edge }
         ensures value { IfOk result (λ value. value ≡ edge_circle self.now.surface.d self.now.triangles edge) }
+        // It is the value of the edge: that of the twin is the same.
+        ensures edge { IfOk result (λ value. value ≡ edge_circle self.now.surface.d self.now.triangles (edge_twin self.now.triangles edge)) }
         ensures inside { IfOk result (λ value. IsPositive self.now.surface.d value ↔ IsInsideFaceCircle self.now.surface.d
             (hinge_after self.now.triangles edge) (hinge_before self.now.triangles edge) (hinge_after_twin self.now.triangles edge)) }
     {
