@@ -1,4 +1,5 @@
 pub mod Values
+pub mod PartSquares
 pub mod Findings
 pub mod Entries
 pub mod RunUnique

@@ -1,7 +1,8 @@
 // What a straight path finds at a corner of a polygon through which it runs.
 
 ghost use Rattle.std.specs.Prelude.{◌≡◌, ◌≤◌};
-ghost use Rattle.fs_quadratic.specs.Ring.{sign};
+ghost use Rattle.fs_quadratic.specs.Ring.{sign, sign_by_parts};
+ghost use Rattle.fs_quadratic.specs.Width.{IsSmall};
 ghost use Rattle.fs_gluing.specs.Limits.{most_sides};
 ghost use Rattle.fs_develop.specs.Looking.{look, look_at_corner, look_at_side};
 
@@ -53,8 +54,32 @@ fn sign(field: Field, x: Elem) -> Ordering
 {
     if x.q() == 0 {
         x.p().cmp(&0)
+    } else if x.is_small() {
+        small_sign(field, x)
     } else {
         field.sign(x)
+    }
+}
+
+// The sign of a small number, from its two parts p and q·√d and their squares.
+fn small_sign(field: Field, x: Elem) -> Ordering
+    requires { IsSmall x }
+    ensures { result ≡ sign field.d x }
+{
+    let (p, q) = (Elem::new(x.p(), 0), Elem::new(0, x.q()));
+    let squares = field.mul_small(p, p).p().cmp(&field.mul_small(q, q).p());
+    sign_by_parts(x.p().cmp(&0), x.q().cmp(&0), squares)
+}
+
+// The sign of a number from those of its parts, and from how their squares compare.
+fn sign_by_parts(p: Ordering, q: Ordering, squares: Ordering) -> Ordering
+    ensures { result ≡ sign_by_parts p q squares }
+{
+    match (p, q) {
+        (Ordering::Greater, Ordering::Less) => squares,
+        (Ordering::Less, Ordering::Greater) => squares.reverse(),
+        (Ordering::Equal, _) => q,
+        _ => p,
     }
 }
 

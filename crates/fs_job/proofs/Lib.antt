@@ -1,7 +1,9 @@
 pub mod ByteTests
 pub mod TextPieces
 pub mod TextLines
+pub mod LineBytes
 pub mod TextWords
+pub mod CornerTexts
 pub mod Pairs
 pub mod StatementWords
 pub mod NumberTexts

@@ -44,3 +44,15 @@ first_word text [] [] e some begins all ends = absurd (some e)
 first_word text [] (c ∷ cs) e some begins all ends = absurd (true_not_false (sym ends ∙ subst (Begins (λ c. is_blank c ≡ false)) e begins))
 first_word text (b ∷ bs) rest e some begins all ends =
     (ap words_of e ∙ words-word b bs rest all ends, let long = ap length e ∙ length-append (b ∷ bs) rest in omega arith)
+
+onto_first_word : (b : ℕ) (ps : List (List ℕ)) → filter is_not_empty (onto_first b ps) ≢ []
+onto_first_word b [] e = cc
+onto_first_word b (p ∷ ps) e = cc
+
+-- a text that begins with no blank and has no words is empty
+pub empty_without_words : (text : List ℕ) → Begins (λ c. is_blank c ≡ false) text → words_of text ≡ [] → text ≡ []
+empty_without_words [] begins e = refl
+empty_without_words (b ∷ bytes) begins e =
+    absurd
+    (onto_first_word b (pieces is_blank bytes)
+    (sym (ap (λ (t : Bool). filter is_not_empty (cond t ([] ∷ pieces is_blank bytes) (onto_first b (pieces is_blank bytes)))) begins) ∙ e))

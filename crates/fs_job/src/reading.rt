@@ -1,7 +1,7 @@
 // `read_job`: the job that bytes are, or their first fault.
 
 ghost use Rattle.fs_io.specs.Whole.{most_bytes};
-ghost use Rattle.std.specs.Prelude.{◌≡◌, ◌≢◌, ◌⊎◌, ◌≤◌, [], false, length, Ok, Err, IfOk, IfErr};
+ghost use Rattle.std.specs.Prelude.{◌≡◌, ◌≢◌, ◌⊎◌, ◌≤◌, [], false, length, Ok, Err, IfOk, IfErr, IsTrue};
 ghost use Rattle.std.specs.List.{AllByRecursion};
 ghost use Rattle.fs_gluing.specs.declared.faults.Fault.{Fault};
 ghost use Rattle.fs_gluing.specs.Shape.{IsWithinLimits};
@@ -16,7 +16,7 @@ use crate::drafts::{Stage, add_line, begin};
 use crate::job::{Job, JobStop};
 use crate::lines::next_line;
 use crate::statements::{is_header, read_line};
-use crate::words::{is_text, next_word};
+use crate::words::{has_text_lines, is_blank_text, is_text};
 use fs_gluing::Fault;
 use std::alloc::Global;
 
@@ -37,14 +37,21 @@ fn after_header(alloc: Global, stage: Stage, number: u32, line: &[u8]) -> Result
     }
 }
 
-// Where a line with this number leads.
-fn step(alloc: Global, stage: Stage, number: u32, line: &[u8]) -> Result<Stage, JobStop>
+// Where a line with this number leads, which may be known to be text.
+fn step(
+    alloc: Global,
+    stage: Stage,
+    number: u32,
+    line: &[u8],
+    known_text: bool,
+) -> Result<Stage, JobStop>
+    requires { IsTrue known_text → IsText line.now }
     ensures { ReturnsOutcome (Leads number (progress_of stage) line.now) result }
 {
-    if !is_text(line) {
+    if !(known_text || is_text(line)) {
         return Err(JobStop::Fault(Fault::NotAscii { line: number }));
     }
-    if next_word(line).is_none() {
+    if is_blank_text(line) {
         return Ok(stage);
     }
     match stage {
@@ -63,13 +70,15 @@ fn read_lines(alloc: Global, bytes: &[u8]) -> Result<Job, JobStop>
     ensures fault { IfErr result (λ e. (e ≡ JobStop.NoMemory)
         ⊎ ((fault : Fault) × (e ≡ JobStop.Fault fault) × IsFirstFault bytes.now fault)) }
 {
+    // Mostly one look at all bytes tells that each line is text.
+    let known_text = has_text_lines(bytes);
     let mut stage = Stage::Start;
     let mut number = 0;
     let mut rest = Some(bytes);
     while let Some(text) = rest {
         let (line, more) = next_line(text);
         number += 1;
-        stage = step(alloc, stage, number, line)?;
+        stage = step(alloc, stage, number, line, known_text)?;
         rest = more;
     }
     match stage {

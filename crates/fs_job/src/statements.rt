@@ -6,7 +6,7 @@ ghost use Rattle.fs_job.specs.Statement.{Pair, StatedCommand, Statement, command
 ghost use Rattle.fs_job.specs.Grammar.{header};
 ghost use Rattle.fs_job.specs.Line.{Finds, SpellsField, SpellsGlue, SpellsSegment, pair_of, pairs_of, command_of, statement_of, HasPair, HasPairs};
 
-use crate::pieces::cut_once;
+use crate::pieces::{cut, cut_once};
 use crate::words::{next_word, only_word};
 use fs_plane::Corner;
 
@@ -61,7 +61,8 @@ fn numeral(text: &[u8]) -> Option<u16>
 fn corner(text: &[u8]) -> Option<Corner>
     ensures { Finds (SpellsCorner text.now) result }
 {
-    let (polygon, side) = cut_once(text, b'.')?;
+    // A second dot would be no digit of the side.
+    let (polygon, side) = cut(text, b'.')?;
     Some(Corner::new(numeral(polygon)?, numeral(side)?))
 }
 
@@ -158,12 +159,12 @@ pub fn read_line(line: &[u8]) -> Option<Line<'_>>
         (λ found. SpellsStatement (words_of line.now) (statement_of found) × HasPairs found) }
 {
     let (word, rest) = next_word(line)?;
-    if word == b"polygon".as_slice() {
-        return Some(Line::Polygon(polygon_line(rest)?));
-    }
     if word == b"glue".as_slice() {
         let (one, two) = glue_line(rest)?;
         return Some(Line::Glue(one, two));
+    }
+    if word == b"polygon".as_slice() {
+        return Some(Line::Polygon(polygon_line(rest)?));
     }
     if word == b"field".as_slice() {
         return Some(Line::Field(field_line(rest)?));

@@ -3,7 +3,7 @@
 ghost use Rattle.std.specs.Prelude.{◌≡◌, ◌≢◌, ◌<◌, ◌≤◌, ◌↔◌, ℕ, List, [], ◌∷◌, ◌++◌, true, false, IsTrue, MatchOption, length};
 ghost use Rattle.std.specs.List.{AllByRecursion};
 ghost use Rattle.fs_job.specs.Pieces.{is_blank, words_of, IsTextByte, IsText};
-ghost use Rattle.fs_job.specs.Cuts.{Begins};
+ghost use Rattle.fs_job.specs.Cuts.{Begins, IsTextOrFeed};
 
 // A tab, or a byte from the space to the tilde.
 fn is_text_byte(byte: u8) -> bool
@@ -20,6 +20,26 @@ pub fn is_text(line: &[u8]) -> bool
     let mut all = true;
     for byte in line {
         let one = is_text_byte(*byte);
+        all = all && one;
+    }
+    all
+}
+
+// A byte that a line may have, or a line feed.
+fn is_text_or_feed(byte: u8) -> bool
+    ensures { IsTrue result ↔ IsTextOrFeed byte }
+{
+    is_text_byte(byte) || byte == b'\n'
+}
+
+// Whether each byte is one that a line may have, or a line feed. Then each line is text.
+pub fn has_text_lines(bytes: &[u8]) -> bool
+    ensures { IsTrue result ↔ AllByRecursion IsTextOrFeed bytes.now }
+{
+    // No early exit, as in `is_text`.
+    let mut all = true;
+    for byte in bytes {
+        let one = is_text_or_feed(*byte);
         all = all && one;
     }
     all
@@ -81,6 +101,13 @@ fn split_word(text: &[u8]) -> (&[u8], &[u8])
     (text, &[])
 }
 
+// Whether a text has no words.
+pub fn is_blank_text(text: &[u8]) -> bool
+    ensures { IsTrue result ↔ (words_of text.now ≡ []) }
+{
+    skip_blanks(text).is_empty()
+}
+
 // The first word of a text, and what follows it.
 pub fn next_word(text: &[u8]) -> Option<(&[u8], &[u8])>
     ensures { MatchOption result
@@ -102,8 +129,9 @@ pub fn only_word(text: &[u8]) -> Option<&[u8]>
         (λ word. words_of text.now ≡ word.now ∷ []) }
 {
     let (word, rest) = next_word(text)?;
-    match next_word(rest) {
-        Some(_) => None,
-        None => Some(word),
+    if is_blank_text(rest) {
+        Some(word)
+    } else {
+        None
     }
 }

@@ -4,9 +4,9 @@ use Rattle.std.proofs.lemmas.List.{map-append, take_more, get_or-map, length-map
 use Rattle.std.proofs.lemmas.List.FromFn.{map-range_with_len_more, get_or-map-range_with_len}
 use Rattle.std.proofs.lemmas.List.Folds.{length-flat_map-take}
 use Rattle.std.specs.List.{range_with_len, flat_map}
-use Rattle.fs_plane.specs.Vector.{PlaneVector, vector_zero}
+use Rattle.fs_plane.specs.Vector.{PlaneVector}
 use Rattle.fs_gluing.specs.Surface.{GluedPolygons}
-use Rattle.fs_gluing.specs.Triangulation.{edge_vector, edge_twin, next_in_face}
+use Rattle.fs_gluing.specs.Triangulation.{edge_twin, next_in_face}
 use Rattle.fs_mesh.specs.declared.arena.HalfEdge.{HalfEdge}
 use Rattle.fs_mesh.specs.Arena.{vectors_of, arena_triangles, HasNexts, IsFilled}
 use Rattle.fs_mesh.specs.Meshes.{IsMesh}
@@ -20,13 +20,10 @@ below_count half_edges h = subst (λ n. h < n) (length-map half_edges (λ k. k.v
 
 module _ (half_edges : List HalfEdge) (h : ℕ) (x : HalfEdge) (there : h < length half_edges) (read : x ≡ get_or half_edges h x) where
   -- what a half-edge keeps is what the triangulation has at its number
-  pub vector_read : edge_vector (arena_triangles half_edges) h ≡ x.vector
-  vector_read = get_or-map (λ k. k.vector) half_edges h x vector_zero there ∙ ap (λ k. k.vector) (sym read)
-
-  pub twin_read : edge_twin (arena_triangles half_edges) h ≡ x.twin
+  twin_read : edge_twin (arena_triangles half_edges) h ≡ x.twin
   twin_read = get_or-map (λ k. k.twin) half_edges h x 0 there ∙ ap (λ k. k.twin) (sym read)
 
-  pub next_read : HasNexts half_edges → x.next ≡ next_in_face h
+  next_read : HasNexts half_edges → x.next ≡ next_in_face h
   next_read nexts =
       ap (λ k. k.next) read
       ∙ sym (get_or-map (λ k. k.next) half_edges h x 0 there)

@@ -18,10 +18,10 @@ use Rattle.fs_mesh.proofs.HalfEdgeNumbers.{eqb_tells_names}
 -- ---- which side of its face a half-edge is
 
 -- the last side of a face is followed by the first, each other one by the number after it
-pub next_of_last : (h : ℕ) → h % 3 ≡ 2 → next_in_face h ≡ h - 2
+next_of_last : (h : ℕ) → h % 3 ≡ 2 → next_in_face h ≡ h - 2
 next_of_last h last = chosen eqb_tells_names (h - 2) (h + 1) last
 
-pub next_of_other : (h : ℕ) → h % 3 ≢ 2 → next_in_face h ≡ h + 1
+next_of_other : (h : ℕ) → h % 3 ≢ 2 → next_in_face h ≡ h + 1
 next_of_other h other = not_chosen eqb_tells_names (h - 2) (h + 1) other
 
 remainder_cases : (h : ℕ) → (h % 3 ≡ 0) ⊎ ((h % 3 ≡ 1) ⊎ (h % 3 ≡ 2))

@@ -71,7 +71,7 @@ module _ {d : ℕ} (L : IsOrderedRing (quadratic d) (IsPositive d)) (t : Triangu
     vector_after y = cond (eqb y h) across (cond (eqb y e) (vector_neg across) (edge_vector t y))
 
     -- the vectors after the writes
-    abbrev pub vectors_after : List PlaneVector
+    abbrev vectors_after : List PlaneVector
     vectors_after = set (set (set (set (set (set t.vectors h across) e (vector_neg across)) a (edge_vector t b)) b (edge_vector t c)) c (edge_vector t g)) g (edge_vector t a)
 
     vector_of_edge : vector_after h ≡ across
@@ -130,7 +130,7 @@ module _ {d : ℕ} (L : IsOrderedRing (quadratic d) (IsPositive d)) (t : Triangu
         of_next = sym (vector_of_other a (triangle_sides.next_not_self L triangles h h_side) (λ f. triangle_sides.twin_not_next L triangles h h_side (sym f)))
 
     -- after the writes each half-edge has its vector at its moved name
-    pub vector_moved : (y : ℕ) → IsSide G y → get_or vectors_after (m y) vector_zero ≡ vector_after y
+    vector_moved : (y : ℕ) → IsSide G y → get_or vectors_after (m y) vector_zero ≡ vector_after y
     vector_moved y s =
         ap (λ xs. get_or xs (m y) vector_zero) vectors_written
         ∙ is_written vector_zero m vector_after one_to_one t.vectors hinge y hinge_moves (elim (hinge_names.spot L eqb_tells_names triangles h h_side y) [
@@ -154,7 +154,7 @@ module _ {d : ℕ} (L : IsOrderedRing (quadratic d) (IsPositive d)) (t : Triangu
   neighbours = h ∷ e ∷ b ∷ c ∷ g ∷ a ∷ edge_twin t a ∷ edge_twin t b ∷ edge_twin t c ∷ edge_twin t g ∷ []
 
   -- the twins after the writes
-  abbrev pub twins_after : List ℕ
+  abbrev twins_after : List ℕ
   twins_after =
       let ta = m (edge_twin t a) in
       let tb = m (edge_twin t b) in
@@ -262,7 +262,7 @@ module _ {d : ℕ} (L : IsOrderedRing (quadratic d) (IsPositive d)) (t : Triangu
       from f = sym (triangles.twin_twin y s) ∙ ap (edge_twin t) f
 
   -- after the writes each half-edge has its twin at its moved name
-  pub twin_moved : length t.twins ≡ length t.vectors → (y : ℕ) → IsSide G y → get_or twins_after (m y) 0 ≡ m (edge_twin t y)
+  twin_moved : length t.twins ≡ length t.vectors → (y : ℕ) → IsSide G y → get_or twins_after (m y) 0 ≡ m (edge_twin t y)
   twin_moved as_many y s =
       ap (λ xs. get_or xs (m y) 0) twins_written
       ∙ is_written 0 m twin_after one_to_one t.twins neighbours y (subst (λ n. AllByRecursion (λ z. m z < n) neighbours) (sym as_many) neighbours_move)

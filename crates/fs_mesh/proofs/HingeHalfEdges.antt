@@ -1,21 +1,23 @@
 -- The hinge of an edge of a mesh: its half-edges are there, and its sides close.
 use Rattle.std.proofs.Common.{◌≡◌, ℕ, ◌<◌, length, sym, ap, ◌∙◌, subst}
 use Rattle.fs_ring.specs.OrderedRing.{IsOrderedRing}
+use Rattle.fs_ring.proofs.Plane as plane
 use Rattle.fs_quadratic.specs.Ring.{quadratic, IsPositive}
-use Rattle.fs_plane.specs.Vector.{vector_add, vector_zero, cross}
+use Rattle.fs_quadratic.proofs.Laws.{quadratic_ring}
+use Rattle.fs_plane.specs.Vector.{vector_add, vector_zero, cross, circle}
 use Rattle.fs_triangles.specs.Triangles.{AreTriangles}
 use Rattle.fs_triangles.proofs.TriangleSides as triangle_sides
 use Rattle.fs_triangles.proofs.FlippedTriangles.{hinge_sum}
 use Rattle.fs_gluing.specs.Triangulation.{Triangulation, face_sides, edge_vector, edge_twin, next_in_face, prev_in_face}
 use Rattle.fs_mesh.specs.declared.arena.Hinge.{Hinge}
 use Rattle.fs_mesh.specs.Arena.{IsWithin, hinge_of}
-use Rattle.fs_mesh.specs.Meshes.{hinge_after, hinge_before, hinge_after_twin, hinge_before_twin}
+use Rattle.fs_mesh.specs.Meshes.{edge_circle, hinge_after, hinge_before, hinge_after_twin, hinge_before_twin}
 use Rattle.fs_mesh.proofs.HalfEdgeNumbers.{side_of_number, number_of_side, next_is_below, twin_is_below}
 
 module _ {d : ℕ} (L : IsOrderedRing (quadratic d) (IsPositive d)) (t : Triangulation) (triangles : AreTriangles (quadratic d) (IsPositive d) (face_sides t))
     (h : ℕ) (there : h < length t.vectors) where
   -- the half-edge before is the one after the next one
-  pub prev_twice : next_in_face (next_in_face h) ≡ prev_in_face h
+  prev_twice : next_in_face (next_in_face h) ≡ prev_in_face h
   prev_twice = sym (triangles.prev h (side_of_number t h there))
 
   prev_is_below : prev_in_face h < length t.vectors
@@ -30,6 +32,13 @@ module _ {d : ℕ} (L : IsOrderedRing (quadratic d) (IsPositive d)) (t : Triangu
   left_turn =
       subst (λ k. IsPositive d (cross d (hinge_after t h) (edge_vector t k))) prev_twice
       (triangles.counterclockwise (next_in_face h) (triangles.next_side h (side_of_number t h there)))
+
+-- both half-edges of an edge have its circle value
+pub circle_of_twin : {d : ℕ} (t : Triangulation) → AreTriangles (quadratic d) (IsPositive d) (face_sides t) → (h : ℕ) → h < length t.vectors → edge_circle d t h ≡ edge_circle d t (edge_twin t h)
+circle_of_twin {d} t triangles h there =
+    let back = triangles.twin_twin h (side_of_number t h there) in
+    sym (plane.circle_swap (quadratic_ring d) (hinge_after t h) (hinge_before t h) (hinge_after_twin t h) (hinge_before_twin t h))
+    ∙ (λ i. circle d (hinge_after_twin t h) (hinge_before_twin t h) (edge_vector t (next_in_face (sym back i))) (edge_vector t (prev_in_face (sym back i))))
 
 -- the half-edges of a hinge, and the twins of its sides, are half-edges
 pub hinge_within : {d : ℕ} → IsOrderedRing (quadratic d) (IsPositive d) → (t : Triangulation) → AreTriangles (quadratic d) (IsPositive d) (face_sides t) → (h : ℕ) → h < length t.vectors

@@ -14,13 +14,13 @@ use Rattle.fs_cuts.proofs.ListsOfSteps.{append}
 use Rattle.fs_cuts.proofs.RemovalGluing as removal_gluing
 use Rattle.fs_cuts.proofs.WithoutEdge as without
 use Rattle.fs_triangles.specs.Triangles.{AreTriangles}
-use Rattle.fs_triangles.specs.Flips.{moved, IsConvexHinge}
+use Rattle.fs_triangles.specs.Flips.{IsConvexHinge}
 use Rattle.fs_triangles.proofs.TriangleSides as triangle_sides
 use Rattle.fs_triangles.proofs.FlippedTriangles.{convex_of_circle, flipped_triangles}
 use Rattle.fs_triangles.proofs.FlippedConnections.{connected_after_flip}
 use Rattle.fs_triangles.proofs.FlipSteps.{flip_steps, cut_by_flipped_edge}
 use Rattle.fs_gluing.specs.SurfaceSides.{is_ahead}
-use Rattle.fs_gluing.specs.Triangulation.{Triangulation, IsTriangulation, face_sides, edge_twin, next_in_face, prev_in_face}
+use Rattle.fs_gluing.specs.Triangulation.{Triangulation, IsTriangulation, face_sides}
 use Rattle.fs_gluing.proofs.Sides.HalfPlaneTests.{decides_half_planes}
 use Rattle.fs_mesh.specs.Meshes.{MeshValue, IsMesh, IsIllegal}
 use Rattle.fs_mesh.specs.FlippedMeshes.{IsFlipOf, ArePastedAndCut}
@@ -69,23 +69,15 @@ module _ {d : ℕ} (radicand : IsRadicand d) {t : Triangulation} (is_triangulati
   steps_after = flip_steps L test eqb_tells_names triangles glued h h_side convex flip.flip glued_after
 
   -- one cut undone and one cut lead to them
-  pub pasted_and_cut : ArePastedAndCut d t after
+  pub pasted_and_cut : ArePastedAndCut d t h after
   pasted_and_cut =
       let first : InHalfPlane (quadratic d) (IsPositive d) _ _ = inside convex.at_start in
       let second : InHalfPlane (quadratic d) (IsPositive d) _ _ = inside convex.at_end in
-      let e = edge_twin t h in
       let r = without.is_without_edge eqb_tells_names glued h h_side (triangle_sides.twin_apart L triangles h h_side) in
       record {
         between = without_edge eqb (face_sides t) h;
         glued = removal_gluing.glued_without_edge L test glued r first second;
-        p = prev_in_face h;
-        q = prev_in_face e;
-        e = h;
-        f = e;
         cut_before = removal_gluing.cut_by_edge L test glued r first second;
-        kept = moved eqb (face_sides t) h;
-        r = next_in_face e;
-        s = next_in_face h;
         cut_after = cut_by_flipped_edge L test eqb_tells_names triangles glued h h_side convex flip.flip;
       }
 

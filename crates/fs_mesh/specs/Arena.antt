@@ -1,4 +1,4 @@
--- The arena of half-edges in which a mesh keeps its triangulation, and the writes of a flip. Public contracts don't cite this file.
+-- The arena of half-edges in which a mesh keeps its triangulation, and the writes of a flip. The contract of `flat` doesn't rest on this file.
 use Rattle.std.specs.Prelude.{◌≡◌, ℕ, ◌<◌, ◌≤◌, cond, eqb, List, length, map, take, slice_index_or, slice_set}
 use Rattle.std.specs.List.{range_with_len}
 use Rattle.fs_plane.specs.Vector.{PlaneVector, vector_zero, vector_neg}
@@ -6,12 +6,15 @@ use Rattle.fs_gluing.specs.Triangulation.{Triangulation, edge_twin, next_in_face
 use Rattle.fs_mesh.specs.declared.arena.HalfEdge.{HalfEdge}
 use Rattle.fs_mesh.specs.declared.arena.Hinge.{Hinge}
 
+-- the vectors of half-edges
 abbrev pub vectors_of : List HalfEdge → List PlaneVector
 vectors_of half_edges = map (λ h. h.vector) half_edges
 
+-- their twins
 abbrev pub twins_of : List HalfEdge → List ℕ
 twins_of half_edges = map (λ h. h.twin) half_edges
 
+-- the next half-edges of their faces
 abbrev pub nexts_of : List HalfEdge → List ℕ
 nexts_of half_edges = map (λ h. h.next) half_edges
 

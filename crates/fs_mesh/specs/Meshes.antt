@@ -18,16 +18,19 @@ pub record IsMesh (m : MeshValue) : Type 0 where
   pub triangulation : IsTriangulation m.surface.d m.triangles
   pub cut : ∥ IsCutFrom m.surface m.triangles ∥₁
 
--- the four sides of the hinge of half-edge h, the two triangles at its edge, counterclockwise from the end of h: after h and before h, then after and before its twin
+-- the hinge of half-edge h is the two triangles at its edge. From the end of h, counterclockwise, the first of its four sides is the half-edge after h
 abbrev pub hinge_after : Triangulation → ℕ → PlaneVector
 hinge_after t h = edge_vector t (next_in_face h)
 
+-- then the one before h
 abbrev pub hinge_before : Triangulation → ℕ → PlaneVector
 hinge_before t h = edge_vector t (prev_in_face h)
 
+-- then the one after the twin of h
 abbrev pub hinge_after_twin : Triangulation → ℕ → PlaneVector
 hinge_after_twin t h = edge_vector t (next_in_face (edge_twin t h))
 
+-- then the one before the twin of h
 abbrev pub hinge_before_twin : Triangulation → ℕ → PlaneVector
 hinge_before_twin t h = edge_vector t (prev_in_face (edge_twin t h))
 

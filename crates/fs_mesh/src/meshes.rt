@@ -40,7 +40,8 @@ impl<'a> Model for Mesh<'a> {
 
 impl<'a> Mesh<'a> {
     /// The mesh of a surface with these triangles, into which it is cut. The corners at which their half-edges
-    /// begin aren't kept. Its cost is linear in the number of triangles.
+    /// begin aren't kept. It is refused only where memory runs out. Its cost is linear in the number of
+    /// triangles.
     pub fn new(
         alloc: Global,
         surface: &'a Surface,
@@ -118,6 +119,8 @@ impl<'a> Mesh<'a> {
         requires { IsEdge self.now.triangles edge }
         ensures formula { result ≡ edge_circle_after self.now.surface.d self.now.triangles edge }
         ensures value { IfOk result (λ value. value ≡ edge_circle self.now.surface.d self.now.triangles edge) }
+        // It is the value of the edge: that of the twin is the same.
+        ensures edge { IfOk result (λ value. value ≡ edge_circle self.now.surface.d self.now.triangles (edge_twin self.now.triangles edge)) }
         ensures inside { IfOk result (λ value. IsPositive self.now.surface.d value ↔ IsInsideFaceCircle self.now.surface.d
             (hinge_after self.now.triangles edge) (hinge_before self.now.triangles edge) (hinge_after_twin self.now.triangles edge)) }
     {
@@ -144,7 +147,7 @@ impl<'a> Mesh<'a> {
         ensures surface { self.new.surface ≡ self.old.surface }
         ensures flipped { OnOk result (IsFlipOf self.old.surface.d self.old.triangles edge self.new.triangles) }
         // One cut undone and one cut lead to the new faces.
-        ensures steps { OnOk result (ArePastedAndCut self.old.surface.d self.old.triangles self.new.triangles) }
+        ensures steps { OnOk result (ArePastedAndCut self.old.surface.d self.old.triangles edge self.new.triangles) }
         ensures refused { MatchResult result (λ _. IsOk (flipped_vector self.old.triangles edge)) (λ place. flipped_vector self.old.triangles edge ≡ Err place) }
         ensures unchanged { OnErr result (self.new ≡ self.old) }
     {

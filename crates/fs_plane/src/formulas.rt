@@ -25,6 +25,8 @@ pub fn cross_after(before: u32, field: Field, a: V2, b: V2) -> Result<Elem, Plac
     if a.is_tiny() && b.is_tiny() {
         Ok(cross_tiny(field, a, b))
     } else {
+        // Made anew for the call: then tiny vectors need no place in memory.
+        let (a, b) = (V2 { x: a.x, y: a.y }, V2 { x: b.x, y: b.y });
         cross_wide(before, field, a, b)
     }
 }

@@ -1,6 +1,7 @@
 // The answer to `segment`.
 
 ghost use Rattle.std.specs.Prelude.{◌≡◌, ◌≢◌, ◌≤◌, ◌++◌, true, codes, IfOk, OnOk, string_bytes};
+ghost use Rattle.std.specs.Fmt.{decimal};
 ghost use Rattle.fs_plane.specs.Vector.{vector_zero};
 ghost use Rattle.fs_gluing.specs.Polygons.{HasSide};
 ghost use Rattle.fs_job.specs.Draft.{IsOrigin};
@@ -152,6 +153,20 @@ fn add_sides(text: &mut String, sides: &[Corner]) -> Result<(), AllocError>
 fn add_side(text: &mut String, corner: Corner) -> Result<(), AllocError>
     ensures { OnOk result (string_bytes text.new ≡ string_bytes text.old ++ (codes " " ++ corner_text corner)) }
 {
-    let (polygon, side) = (corner.polygon, corner.side);
-    write!(text, " {polygon}.{side}")
+    text.push(' ')?;
+    add_decimal(text, corner.polygon)?;
+    text.push('.')?;
+    add_decimal(text, corner.side)
+}
+
+// Adds a number in decimal digits. Most numbers of sides have one: it takes no formatting.
+#[inline]
+fn add_decimal(text: &mut String, n: u16) -> Result<(), AllocError>
+    ensures { OnOk result (string_bytes text.new ≡ string_bytes text.old ++ decimal n) }
+{
+    if n < 10 {
+        text.push(char::from(b'0' + n as u8))
+    } else {
+        write!(text, "{n}")
+    }
 }

@@ -47,5 +47,5 @@ returns-clause-flipped c =
 pub returns-clause-steps : goal.returns-clause-steps
 returns-clause-steps c =
     let mesh = mesh_before c in
-    subst (λ half_edges. ArePastedAndCut c.args.self.now.surface.d c.args.self.now.triangles (arena_triangles half_edges)) (sym (whole c))
+    subst (λ half_edges. ArePastedAndCut c.args.self.now.surface.d c.args.self.now.triangles c.args.edge (arena_triangles half_edges)) (sym (whole c))
     (pasted_and_cut mesh.surface.radicand mesh.triangulation c.args.edge c.requires.edge.there c.requires.illegal (is_flip c))

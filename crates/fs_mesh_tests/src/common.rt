@@ -4,6 +4,7 @@ ghost use Rattle.fs_gluing.specs.Shape.{IsWithinLimits};
 
 use fs_fraction::Frac;
 use fs_gluing::{Glue, Point, Sequence, Shape, Surface, Triangles, build};
+use fs_mesh::Mesh;
 use fs_plane::{Corner, V2};
 use fs_quadratic::{Elem, Field};
 use std::alloc::{AllocError, Global};
@@ -32,6 +33,12 @@ pub struct Told {
     pub vectors: &'static [Vector],
     pub twins: &'static [u32],
     pub homes: &'static [Name],
+}
+
+// A triangulation: the vector and the twin of each half-edge.
+pub struct State {
+    pub vectors: &'static [Vector],
+    pub twins: &'static [u32],
 }
 
 // The number of these parts.
@@ -154,5 +161,29 @@ pub fn expect_triangles(rt: &impl Abort, triangles: &Triangles, told: &Told) {
         expect_half_edge(rt, triangles, told, f, 0);
         expect_half_edge(rt, triangles, told, f, 1);
         expect_half_edge(rt, triangles, told, f, 2);
+    }
+}
+
+// That a half-edge of a mesh, and the one after it, are as told.
+fn expect_mesh_half_edge(rt: &impl Abort, mesh: &Mesh, state: &State, h: u32) {
+    assert!(rt; h < mesh.half_edges());
+    let k = h as usize;
+    assert!(rt; k < state.vectors.len() && k < state.twins.len());
+    assert!(rt;
+        mesh.vector(h) == vector(rt, state.vectors[k]),
+        "vector of half-edge {h}"
+    );
+    assert!(rt; mesh.twin(h) == state.twins[k], "twin of half-edge {h}");
+    assert!(rt;
+        mesh.next(mesh.next(mesh.next(h))) == h,
+        "next half-edges of {h}"
+    );
+}
+
+// That the triangles of a mesh are as told.
+pub fn expect_mesh(rt: &impl Abort, mesh: &Mesh, state: &State) {
+    assert!(rt; mesh.half_edges() as usize == state.vectors.len());
+    for h in 0..mesh.half_edges() {
+        expect_mesh_half_edge(rt, mesh, state, h);
     }
 }
