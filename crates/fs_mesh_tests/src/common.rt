@@ -168,7 +168,8 @@ pub fn expect_triangles(rt: &impl Abort, triangles: &Triangles, told: &Told) {
 fn expect_mesh_half_edge(rt: &impl Abort, mesh: &Mesh, state: &State, h: u32) {
     assert!(rt; h < mesh.half_edges());
     let k = h as usize;
-    assert!(rt; k < state.vectors.len() && k < state.twins.len());
+    assert!(rt; k < state.vectors.len());
+    assert!(rt; k < state.twins.len());
     assert!(rt;
         mesh.vector(h) == vector(rt, state.vectors[k]),
         "vector of half-edge {h}"

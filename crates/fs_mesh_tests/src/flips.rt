@@ -1,5 +1,9 @@
 // Flips of illegal edges, in turn the first one, and the triangles after each.
 
+ghost use Rattle.std.specs.Prelude.{IfSome, IsTrue};
+ghost use Rattle.fs_gluing.specs.Triangulation.{IsEdge};
+ghost use Rattle.fs_mesh.specs.Meshes.{IsIllegal};
+
 use crate::common::{Plan, State, expect_mesh, surface_of};
 use crate::plans::{LONG_TORUS, SHEARED_OCTAGON, SHEARED_TORUS};
 use crate::states::{
@@ -12,26 +16,36 @@ use std::cmp::Ordering;
 use std::process::Abort;
 use std::test::Fail;
 
-// Flips an edge, where the half-edge names one that is illegal: whether it did.
-fn flip_illegal(mesh: &mut Mesh, edge: u32) -> bool {
-    if edge < mesh.half_edges() && edge < mesh.twin(edge) {
-        if let Ok(value) = mesh.circle_of(edge) {
-            if mesh.surface().field().sign(value) == Ordering::Greater {
-                return mesh.flip(edge).is_ok();
-            }
-        }
+// Whether an edge is illegal.
+fn is_illegal(rt: &impl Abort, mesh: &Mesh, edge: u32) -> bool
+    requires { IsEdge mesh.now.triangles edge }
+    ensures { IsTrue result → IsIllegal mesh.now.surface.d mesh.now.triangles edge }
+{
+    let value = mesh.circle_of(edge).expect(rt, "a circle value");
+    match mesh.surface().field().sign(value) {
+        Ordering::Greater => true,
+        Ordering::Equal | Ordering::Less => false,
     }
-    false
 }
 
-// Flips the first illegal edge, and returns it.
-fn flip_first(mesh: &mut Mesh) -> Option<u32> {
+// The first illegal edge, if there is one.
+fn first_illegal(rt: &impl Abort, mesh: &Mesh) -> Option<u32>
+    ensures edge { IfSome result (λ edge. IsEdge mesh.now.triangles edge) }
+    ensures illegal { IfSome result (λ edge. IsIllegal mesh.now.surface.d mesh.now.triangles edge) }
+{
     for edge in 0..mesh.half_edges() {
-        if flip_illegal(mesh, edge) {
+        if edge < mesh.twin(edge) && is_illegal(rt, mesh, edge) {
             return Some(edge);
         }
     }
     None
+}
+
+// Flips the first illegal edge, and returns it.
+fn flip_first(rt: &impl Abort, mesh: &mut Mesh) -> Option<u32> {
+    let edge = first_illegal(rt, mesh)?;
+    mesh.flip(edge).expect(rt, "a flip");
+    Some(edge)
 }
 
 // That these edges are flipped in turn, with these triangles after each, and then none is illegal.
@@ -46,10 +60,13 @@ fn expect_flips(
     let triangles = fan_cut(alloc, &surface).expect(rt, "memory");
     let mut mesh = Mesh::new(alloc, &surface, triangles).expect(rt, "memory");
     for (edge, state) in flips {
-        assert!(rt; flip_first(&mut mesh) == Some(*edge), "flip of edge {edge}");
+        assert!(rt;
+            flip_first(rt, &mut mesh) == Some(*edge),
+            "flip of edge {edge}"
+        );
         expect_mesh(rt, &mesh, state);
     }
-    assert!(rt; flip_first(&mut mesh).is_none(), "an edge is illegal");
+    assert!(rt; flip_first(rt, &mut mesh).is_none(), "an edge is illegal");
     Ok(())
 }
 
@@ -88,8 +105,8 @@ fn long_torus(rt: HostRuntime) -> Result<(), Fail> {
     let triangles = fan_cut(rt.alloc(), &surface).expect(&rt, "memory");
     let mut mesh = Mesh::new(rt.alloc(), &surface, triangles).expect(&rt, "memory");
     for flip in 0..1000 {
-        assert!(rt; flip_first(&mut mesh).is_some(), "flip {flip}");
+        assert!(rt; flip_first(&rt, &mut mesh).is_some(), "flip {flip}");
     }
-    assert!(rt; flip_first(&mut mesh).is_none(), "an edge is illegal");
+    assert!(rt; flip_first(&rt, &mut mesh).is_none(), "an edge is illegal");
     Ok(())
 }
