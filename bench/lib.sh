@@ -41,6 +41,12 @@ build() {
     echo "$name: $*" >>"$work/crates.txt"
     mkdir -p "$work/crates/$name/src"
     cp "$here/$name.rattle" "$work/crates/$name/src/main.rt"
+    # the answers of its function F are in NAME.F, since the gate reads any file .antt
+    for part in "$here/$name".*; do
+        case $part in *.rattle | *.rs | *.py) continue ;; esac
+        mkdir -p "$work/crates/$name/proofs/${part##*.}"
+        cp "$part" "$work/crates/$name/proofs/${part##*.}/Answers.antt"
+    done
     (cd "$work/crates/$name" && rt run) >"$work/log" 2>&1 || {
         cat "$work/log" >&2
         exit 1
