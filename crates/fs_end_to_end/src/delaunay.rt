@@ -129,7 +129,10 @@ fn thousand_flips(rt: HostRuntime) {
     let mut out = sink(&rt, rt.alloc(), 65536, Vec::new(rt.alloc()));
     let status = flat(rt.alloc(), &words, &mut input, &mut out);
     assert!(&rt; status == Status::Done);
-    assert!(&rt; out.held().starts_with(b"delaunay flips 1000\nflip 2\nflip 0\nflip 1\nflip 2\n"));
+    assert!(&rt;
+        out.held()
+            .starts_with(b"delaunay flips 1000\nflip 2\nflip 0\nflip 1\nflip 2\n")
+    );
     expect_torus(
         &rt,
         rt.alloc(),
@@ -180,8 +183,7 @@ fn wide_circle_values(rt: HostRuntime) {
     for (polygon, site) in WIDE.iter() {
         let answer = format!(in rt.alloc();
             "delaunay overflow {site}\ncheck polygons 1 sides 4\ncells overflow {site}\n"
-        )
-        .expect(&rt, "memory");
+        ).expect(&rt, "memory");
         expect_torus(
             &rt,
             rt.alloc(),
