@@ -71,7 +71,7 @@ module _ {d : ℕ} (L : IsOrderedRing (quadratic d) (IsPositive d)) (t : Triangu
     vector_after y = cond (eqb y h) across (cond (eqb y e) (vector_neg across) (edge_vector t y))
 
     -- the vectors after the writes
-    abbrev vectors_after : List PlaneVector
+    abbrev pub vectors_after : List PlaneVector
     vectors_after = set (set (set (set (set (set t.vectors h across) e (vector_neg across)) a (edge_vector t b)) b (edge_vector t c)) c (edge_vector t g)) g (edge_vector t a)
 
     vector_of_edge : vector_after h ≡ across
@@ -154,7 +154,7 @@ module _ {d : ℕ} (L : IsOrderedRing (quadratic d) (IsPositive d)) (t : Triangu
   neighbours = h ∷ e ∷ b ∷ c ∷ g ∷ a ∷ edge_twin t a ∷ edge_twin t b ∷ edge_twin t c ∷ edge_twin t g ∷ []
 
   -- the twins after the writes
-  abbrev twins_after : List ℕ
+  abbrev pub twins_after : List ℕ
   twins_after =
       let ta = m (edge_twin t a) in
       let tb = m (edge_twin t b) in

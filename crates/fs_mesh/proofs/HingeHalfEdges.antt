@@ -17,7 +17,7 @@ use Rattle.fs_mesh.proofs.HalfEdgeNumbers.{side_of_number, number_of_side, next_
 module _ {d : ℕ} (L : IsOrderedRing (quadratic d) (IsPositive d)) (t : Triangulation) (triangles : AreTriangles (quadratic d) (IsPositive d) (face_sides t))
     (h : ℕ) (there : h < length t.vectors) where
   -- the half-edge before is the one after the next one
-  prev_twice : next_in_face (next_in_face h) ≡ prev_in_face h
+  pub prev_twice : next_in_face (next_in_face h) ≡ prev_in_face h
   prev_twice = sym (triangles.prev h (side_of_number t h there))
 
   prev_is_below : prev_in_face h < length t.vectors
