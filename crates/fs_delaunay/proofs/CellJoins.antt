@@ -1,15 +1,14 @@
 -- Edges that join faces: the value at an edge doesn't depend on which of its half-edges names it, and faces that are joined step by step are of one cell.
-use Rattle.std.proofs.Common.{◌≡◌, ℕ, ◌/◌, ◌<◌, ◌≤◌, Ok, Err, length, refl, sym, ap, ◌∙◌, subst, arith}
-use Rattle.fs_ring.proofs.Plane as plane
+use Rattle.std.proofs.Common.{◌≡◌, ℕ, ◌/◌, ◌<◌, ◌≤◌, Ok, Err, length, refl, sym, ◌∙◌, subst, arith}
 use Rattle.fs_quadratic.specs.Radicand.{IsRadicand}
 use Rattle.fs_quadratic.specs.Ring.{quadratic, IsPositive}
-use Rattle.fs_quadratic.proofs.Laws.{quadratic_ring, field_order}
+use Rattle.fs_quadratic.proofs.Laws.{field_order}
 use Rattle.fs_quadratic.specs.declared.steps.Place.{Place}
-use Rattle.fs_plane.specs.Vector.{circle}
 use Rattle.fs_triangles.specs.Triangles.{AreTriangles}
 use Rattle.fs_triangles.proofs.TriangleSides.{twin_not_self}
-use Rattle.fs_gluing.specs.Triangulation.{Triangulation, IsEdge, face_sides, edge_vector, edge_twin, next_in_face, prev_in_face}
-use Rattle.fs_mesh.specs.Meshes.{edge_circle, edge_circle_after, hinge_after, hinge_before, hinge_after_twin, hinge_before_twin}
+use Rattle.fs_gluing.specs.Triangulation.{Triangulation, IsEdge, face_sides, edge_twin}
+use Rattle.fs_mesh.specs.Meshes.{edge_circle_after}
+use Rattle.fs_mesh.proofs.HingeHalfEdges.{circle_of_twin}
 use Rattle.fs_mesh.proofs.HalfEdgeNumbers.{side_of_number, twin_is_below}
 use Rattle.fs_delaunay.specs.Cells.{AreJoined, AreOfOneCell}
 use Rattle.fs_delaunay.specs.CheckedRuns.{AllPass}
@@ -39,15 +38,9 @@ module _ {d : ℕ} (t : Triangulation) (triangles : AreTriangles (quadratic d) (
   twin_back : (h : ℕ) → h < length t.vectors → edge_twin t (edge_twin t h) ≡ h
   twin_back h there = triangles.twin_twin h (side_of_number t h there)
 
-  -- both half-edges of an edge have its circle value
-  pub circle_of_twin : IsRadicand d → (h : ℕ) → h < length t.vectors → edge_circle d t (edge_twin t h) ≡ edge_circle d t h
-  circle_of_twin radicand h there =
-      ap (λ k. circle d (hinge_after_twin t h) (hinge_before_twin t h) (edge_vector t (next_in_face k)) (edge_vector t (prev_in_face k))) (twin_back h there)
-      ∙ plane.circle_swap (quadratic_ring d) (hinge_after t h) (hinge_before t h) (hinge_after_twin t h) (hinge_before_twin t h)
-
   -- the twin of a half-edge whose edge joins its faces is one, too
   pub twin_joins : IsRadicand d → (h : ℕ) → JoinsFaces d t h → JoinsFaces d t (edge_twin t h)
-  twin_joins radicand h joins = record { there = twin_is_below t triangles h joins.there; zero = circle_of_twin radicand h joins.there ∙ joins.zero }
+  twin_joins radicand h joins = record { there = twin_is_below t triangles h joins.there; zero = sym (circle_of_twin t triangles h joins.there) ∙ joins.zero }
 
   -- the lesser of two twins names their edge
   pub twin_names_edge : IsRadicand d → (h : ℕ) → h < length t.vectors → edge_twin t h ≤ h → IsEdge t (edge_twin t h)

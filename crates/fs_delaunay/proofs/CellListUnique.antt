@@ -1,10 +1,10 @@
 -- A triangulation has one list of cells at most.
-use Rattle.std.proofs.Common.{◌≡◌, ℕ, ◌≤◌, List, [], ◌∷◌, map, refl, sym, ap, ◌∙◌, subst, inl, inr, arith}
+use Rattle.std.proofs.Common.{◌≡◌, ℕ, List, [], ◌∷◌, map, refl, sym, subst, inl, inr, arith}
 use Rattle.fs_lists.specs.Members.{IsIn}
 use Rattle.fs_lists.proofs.Equal.{heads_equal, tails_equal}
 use Rattle.fs_lists.proofs.Members.{All-member, in_map, in_map_cases}
 use Rattle.fs_gluing.specs.Triangulation.{Triangulation}
-use Rattle.fs_delaunay.specs.Cells.{AreCells, AreOfOneCell, IsAscending, IsFace, first_of}
+use Rattle.fs_delaunay.specs.Cells.{AreCells, AreOfOneCell, IsAscending, first_of}
 use Rattle.fs_delaunay.proofs.AscendingLists.{first_least, ascending_equal}
 
 module _ (d : ℕ) (t : Triangulation) where

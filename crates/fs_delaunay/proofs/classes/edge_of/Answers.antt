@@ -2,7 +2,8 @@
 use Rattle.std.proofs.Common.{◌≤◌, sym, ap, ◌∙◌, subst}
 use Rattle.fs_gluing.specs.Triangulation.{IsEdge}
 use Rattle.fs_mesh.specs.Meshes.{edge_circle}
-use Rattle.fs_delaunay.proofs.CellJoins.{twin_names_edge, circle_of_twin}
+use Rattle.fs_mesh.proofs.HingeHalfEdges.{circle_of_twin}
+use Rattle.fs_delaunay.proofs.CellJoins.{twin_names_edge}
 use Rattle.fs_delaunay.proofs.classes.edge_of.Goals as goal
 
 pub returns-clause-edge : goal.returns-clause-edge
@@ -16,4 +17,4 @@ pub returns-clause-circle : goal.returns-clause-circle
 returns-clause-circle c =
     let mesh = c.requires.mesh in
     ap (edge_circle c.args.mesh.now.surface.d c.args.mesh.now.triangles) c.twin-twin.ensures.twin
-    ∙ circle_of_twin c.args.mesh.now.triangles mesh.triangulation.triangles mesh.surface.radicand c.args.h c.requires.there
+    ∙ sym (circle_of_twin c.args.mesh.now.triangles mesh.triangulation.triangles c.args.h c.requires.there)
