@@ -10,10 +10,6 @@ use Rattle.fs_delaunay.specs.CellNumbers.{number_of, cell_at, AreDealt}
 
 -- ---- ascending lists
 
-all_of_members : (P : ℕ → Type 0) (xs : List ℕ) → ((x : ℕ) → IsIn x xs → P x) → AllByRecursion P xs
-all_of_members P [] h = tt
-all_of_members P (x ∷ xs) h = (h x (inl refl), all_of_members P xs (λ y m. h y (inr m)))
-
 all_more : (P : ℕ → Type 0) (xs : List ℕ) (n : ℕ) → AllByRecursion P xs → P n → AllByRecursion P (xs ++ n ∷ [])
 all_more P [] n a p = (p, tt)
 all_more P (x ∷ xs) n a p = (a.0, all_more P xs n a.1 p)
@@ -41,16 +37,6 @@ cell_in (c ∷ cs) (suc j) l = inr (cell_in cs j (omega (arith, l)))
 -- ---- one more face
 
 module _ (numbers : List (Option ℕ)) where
-  -- no face is dealt out at first
-  pub dealt_none : AreDealt numbers 0 []
-  dealt_none = record {
-    each = λ x j l h. absurd (omega (arith, l));
-    members = λ j x l. absurd (omega (arith, l));
-    first = λ j l. absurd (omega (arith, l));
-    ascending = λ j l. absurd (omega (arith, l));
-    in_order = tt;
-  }
-
   module _ (n k : ℕ) (cells : List (List ℕ)) (a : AreDealt numbers n cells) (is : number_of numbers n ≡ Some k) where
     -- its list is there, or the next one
     pub list_there : ((x j i : ℕ) → number_of numbers x ≡ Some j → i < j → (y : ℕ) × y < x × (number_of numbers y ≡ Some i)) → k ≤ length cells

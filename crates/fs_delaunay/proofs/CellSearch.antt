@@ -19,13 +19,6 @@ use Rattle.fs_delaunay.proofs.CellNumbers.{numbered_more, half_edge_crossed, fac
 none_in : (x : ℕ) → Contains [] x → ⊥
 none_in x c = omega (arith, c.1)
 
--- a face with a number is there
-pub numbered_below : (numbers : List (Option ℕ)) (x j : ℕ) → number_of numbers x ≡ Some j → x < length numbers
-numbered_below numbers x j h = elim (cases_lt x (length numbers)) [
-  | inl l ↦ l
-  | inr past ↦ absurd (let both : None ≡ Some j = sym (get_or_past numbers x None past) ∙ h in cc)
-]
-
 -- a face has a number or none
 pub number_there : (o : Option ℕ) → is_some o ≡ true → (j : ℕ) × (o ≡ Some j)
 number_there None h = absurd (let same : false ≡ true = h in cc)

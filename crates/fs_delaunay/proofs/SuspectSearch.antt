@@ -1,7 +1,6 @@
 -- The search for the first edge that fails, among the suspects.
-use Rattle.std.proofs.Common.{◌≡◌, ◌↔◌, ℕ, ◌+◌, ◌<◌, ◌≤◌, Bool, false, List, length, Ok, refl, sym, ap, ◌∙◌, subst, inl, inr, arith, length-set, get_or-set_same, get_or-set_other}
+use Rattle.std.proofs.Common.{◌≡◌, ◌↔◌, ℕ, ◌+◌, ◌<◌, Bool, false, List, length, Ok, refl, sym, ap, ◌∙◌, subst, inl, inr, arith, length-set, get_or-set_same, get_or-set_other}
 use Rattle.std.proofs.Math.ListN.{set}
-use Rattle.std.proofs.lemmas.Bool.{cases_lt}
 use Rattle.std.proofs.lemmas.Bool.Decides.{eqb_tells}
 use Rattle.std.specs.Bool.{◌==◌}
 use Rattle.std.specs.Ordering.{ordering_index}
@@ -10,7 +9,7 @@ use Rattle.std.specs.declared.cmp.Ordering.TheVariants.{Less, Equal, Greater}
 use Rattle.fs_quadratic.specs.Ring.{Quadratic, IsPositive}
 use Rattle.fs_gluing.specs.Triangulation.{Triangulation, IsEdge, edge_twin}
 use Rattle.fs_mesh.specs.Meshes.{edge_circle_after}
-use Rattle.fs_delaunay.specs.CheckedRuns.{Passes, AllPass, IsReached}
+use Rattle.fs_delaunay.specs.CheckedRuns.{Passes}
 use Rattle.fs_delaunay.specs.Steps.{TestsEdge}
 use Rattle.fs_delaunay.specs.Suspects.{mark_of, HasNoMark, IsFirstMark, MarksSuspects}
 
@@ -30,29 +29,8 @@ pub record SearchesSuspects (d : ℕ) (t : Triangulation) (marks : List Bool) (f
   pub suspects : MarksSuspects d t marks
   pub before : HasNoMark marks 0 from
 
-pub search_starts : (d : ℕ) (t : Triangulation) (marks : List Bool) → MarksSuspects d t marks → SearchesSuspects d t marks 0
-search_starts d t marks suspects = record { suspects = suspects; before = λ o least below. absurd (omega arith) }
-
 module _ (d : ℕ) (t : Triangulation) (marks : List Bool) (from : ℕ) (s : SearchesSuspects d t marks from) where
-  -- where there is no suspect each edge passes
-  pub all_pass_of_none : HasNoMark marks 0 (length marks) → AllPass d t
-  all_pass_of_none none e edge = s.suspects.passes e edge (none e (omega arith) (subst (λ n. e < n) (sym s.suspects.as_many) edge.there))
-
   module _ (h : ℕ) (first : IsFirstMark marks 0 h) where
-    pub first_there : h < length t.vectors
-    first_there = subst (λ n. h < n) s.suspects.as_many first.there
-
-    -- each edge before the first suspect passes
-    pub reached_of_first : IsEdge t h → IsReached d t h
-    reached_of_first edge = record { edge = edge; before = λ o o_edge below. s.suspects.passes o o_edge (first.before o (omega arith) below) }
-
-    -- the first suspect is at or after where the search is
-    pub first_after : from ≤ h
-    first_after = elim (cases_lt h from) [
-      | inl below ↦ let unmarked = s.before h (omega arith) below in let marked = first.marked in absurd cc
-      | inr after ↦ after
-    ]
-
     -- a suspect that passes is a suspect no more
     pub suspects_without : (IsEdge t h → Passes d t h) → MarksSuspects d t (set marks h false)
     suspects_without passes = record {

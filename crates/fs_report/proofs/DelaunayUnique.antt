@@ -41,7 +41,7 @@ spent_is d start n _ (circle_overflows edges t e place leads few r o) = tt
 spent_is d start n _ (flip_overflows edges t e place leads few r f o) = tt
 spent_is d start n _ (budget_spent edges t e leads all r f) = refl
 
--- a run never ends for want of memory
+-- a run never ends because memory runs out
 abbrev EndsSomehow : Result Flipped Stop → Type 0
 EndsSomehow (Err NoMemory) = ⊥
 EndsSomehow end = Unit {0}

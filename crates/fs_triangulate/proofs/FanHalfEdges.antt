@@ -112,9 +112,6 @@ module _ (s : GluedPolygons) (triangles : Triangles) (cut : HasTriangles s (fans
     abbrev b : ℕ
     b = faces_before polygons i
 
-    abbrev at : ℕ → PlaneVector
-    at j = position_in s i j
-
     -- a diagonal is glued to itself
     pub twin_third : (t : ℕ) → t + 3 < n → edge_twin T (3 * (b + t) + 2) ≡ 3 * (b + (t + 1)) + 0
     twin_third t l =
