@@ -100,7 +100,11 @@ fn line_without_corner(surface: &Surface, command: &Command) -> Option<u32>
         (λ line. (¬ HasCorner surface.now command.now) × (line ≡ stated_line command.now)) }
 {
     match command {
-        Command::Check | Command::Stratum | Command::Delaunay | Command::Cells => None,
+        Command::Check
+        | Command::Stratum
+        | Command::Delaunay
+        | Command::Cells
+        | Command::Saddles { .. } => None,
         Command::Segment { line, start, .. } => {
             if surface.has(*start) {
                 None

@@ -6,3 +6,7 @@ pub mod Boundary
 pub mod Corners
 pub mod Exits
 pub mod Chains
+pub mod LineThroughSides
+pub mod Runs
+pub mod Rows
+pub mod Measures

@@ -1,5 +1,5 @@
 -- Runs with the numbers by which they are computed: what passes isn't illegal, what fails is, and checked runs are runs.
-use Rattle.std.proofs.Common.{◌≡◌, ◌⊎◌, ℕ, zero, suc, ◌<◌, Ok, Err, Result, List, length, sym, ◌∙◌, subst, inl, inr, arith}
+use Rattle.std.proofs.Common.{◌≡◌, ◌⊎◌, ℕ, zero, suc, ◌<◌, Ok, Err, Result, List, length, refl, sym, ap, ◌∙◌, subst, inl, inr, arith}
 use Rattle.std.proofs.lemmas.Bool.{cases_order, cases_lt}
 use Rattle.fs_lists.proofs.Results.{ok_equal, ok_not_err}
 use Rattle.fs_quadratic.specs.Ring.{Quadratic, IsPositive}
@@ -10,7 +10,8 @@ use Rattle.fs_ring.specs.OrderedRing.{positive, null, negative}
 use Rattle.fs_ring.proofs.Signs as signs
 use Rattle.fs_plane.proofs.CircleLaws.{circle_value}
 use Rattle.fs_gluing.specs.Triangulation.{Triangulation, IsEdge, edge_twin}
-use Rattle.fs_mesh.specs.Meshes.{edge_circle, edge_circle_after, IsIllegal, hinge_after, hinge_before, hinge_after_twin, hinge_before_twin}
+use Rattle.fs_mesh.specs.FlippedMeshes.{IsFlipOf}
+use Rattle.fs_mesh.specs.Meshes.{MeshValue, edge_circle, edge_circle_after, IsIllegal, hinge_after, hinge_before, hinge_after_twin, hinge_before_twin}
 use Rattle.fs_delaunay.specs.Runs.{IsDelaunay, IsFirstIllegal, LeadsByFlips, no_flip, flip}
 use Rattle.fs_delaunay.specs.CheckedRuns as checked
 use Rattle.fs_delaunay.specs.CheckedRuns.{Passes, Fails, AllPass, IsReached, LeadsByChecks}
@@ -74,11 +75,18 @@ first_illegal d t e r f = record {
   first = λ o edge below. legal_of_passes d t o (r.before o edge below);
 }
 
+-- flips keep the surface
+pub surface_of_checks : (start : MeshValue) (edges : List ℕ) (m : MeshValue) → LeadsByChecks start edges m → m.surface ≡ start.surface
+surface_of_checks start _ _ checked.no_flip = refl
+surface_of_checks start _ _ (checked.flip edges e m after run r f is_flip) = is_flip.surface ∙ surface_of_checks start edges m run
+
 -- a checked run is a run
-pub run_of_checks : (d : ℕ) (start : Triangulation) (edges : List ℕ) (t : Triangulation) → LeadsByChecks d start edges t → LeadsByFlips d start edges t
-run_of_checks d start _ _ checked.no_flip = no_flip
-run_of_checks d start _ _ (checked.flip edges e t after run r f fits is_flip) =
-    flip edges e t after (run_of_checks d start edges t run) (first_illegal d t e r f) is_flip
+pub run_of_checks : (start : MeshValue) (edges : List ℕ) (m : MeshValue) → LeadsByChecks start edges m → LeadsByFlips start.surface.d start.triangles edges m.triangles
+run_of_checks start _ _ checked.no_flip = no_flip
+run_of_checks start _ _ (checked.flip edges e m after run r f is_flip) =
+    let same : m.surface.d ≡ start.surface.d = ap (λ s. s.d) (surface_of_checks start edges m run) in
+    flip edges e m.triangles after.triangles (run_of_checks start edges m run) (subst (λ d. IsFirstIllegal d m.triangles e) same (first_illegal m.surface.d m.triangles e r f))
+    (subst (λ d. IsFlipOf d m.triangles e after.triangles) same is_flip.triangles)
 
 -- ---- the first edge that doesn't pass
 

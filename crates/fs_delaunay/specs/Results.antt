@@ -16,7 +16,7 @@ IsDelaunayValue v = AllPass v.mesh.surface.d v.mesh.triangles
 
 -- what holds of the end of a run holds of the end that a call returns; where memory runs out it returns none
 abbrev pub ReturnsRun : (Result Flipped Stop → Type 0) → Result DelaunayValue Stop → Type 0
-ReturnsRun P (Ok delaunay) = P (Ok (record { edges = delaunay.edges; triangles = delaunay.mesh.triangles }))
+ReturnsRun P (Ok delaunay) = P (Ok (record { edges = delaunay.edges; mesh = delaunay.mesh }))
 ReturnsRun P (Err NoMemory) = Unit {0}
 ReturnsRun P (Err (Undecided n)) = P (Err (Undecided n))
 ReturnsRun P (Err (Overflow site)) = P (Err (Overflow site))

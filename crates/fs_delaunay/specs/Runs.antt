@@ -4,14 +4,16 @@ use Rattle.fs_gluing.specs.declared.triangulations.Triangles.{Triangles}
 use Rattle.fs_gluing.specs.FirstCut.{IsFirstCut}
 use Rattle.fs_gluing.specs.Surface.{GluedPolygons}
 use Rattle.fs_gluing.specs.Triangulation.{Triangulation, IsEdge, triangulation_of}
-use Rattle.fs_mesh.specs.Meshes.{IsIllegal}
+use Rattle.fs_mesh.specs.Meshes.{MeshValue, IsIllegal}
 use Rattle.fs_mesh.specs.FlippedMeshes.{IsFlipOf}
 
--- the triangulation is that of the first cut of the surface
-pub record IsFirstTriangulation (s : GluedPolygons) (t : Triangulation) : Type 0 where
+-- the mesh is that of the first cut of the surface
+pub record IsFirstMesh (s : GluedPolygons) (m : MeshValue) : Type 0 where
+  pub surface : m.surface ≡ s
   pub triangles : Triangles
   pub cut : IsFirstCut s triangles
-  pub same : t ≡ triangulation_of triangles
+  pub same : m.triangles ≡ triangulation_of triangles
+  pub homes : m.homes ≡ triangles.homes
 
 -- no edge is illegal
 abbrev pub IsDelaunay : ℕ → Triangulation → Type 0

@@ -2,7 +2,7 @@
 
 ghost use Rattle.std.specs.Prelude.{◌≡◌, false, IfOk};
 ghost use Rattle.fs_gluing.specs.Triangulation.{triangulation_of};
-ghost use Rattle.fs_delaunay.specs.Runs.{IsFirstTriangulation};
+ghost use Rattle.fs_delaunay.specs.Runs.{IsFirstMesh};
 ghost use Rattle.fs_delaunay.specs.CheckedRuns.{AllPass};
 ghost use Rattle.fs_delaunay.specs.Cells.{AreCells};
 ghost use Rattle.fs_delaunay.specs.Results.{IsDelaunayValue};
@@ -64,7 +64,7 @@ impl<'a> Delaunay<'a> {
 pub fn start<'a>(alloc: Global, surface: &'a Surface) -> Result<Mesh<'a>, NoMemory>
     requires strict { surface.now.straight ≡ false }
     ensures surface { IfOk result (λ mesh. mesh.surface ≡ surface.now) }
-    ensures first_cut { IfOk result (λ mesh. IsFirstTriangulation surface.now mesh.triangles) }
+    ensures first_cut { IfOk result (IsFirstMesh surface.now) }
 {
     let triangles = fan_cut(alloc, surface)?;
     Mesh::new(alloc, surface, triangles)

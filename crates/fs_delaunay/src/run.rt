@@ -91,7 +91,7 @@ fn flip_next(
     requires suspects { MarksSuspects mesh.old.surface.d mesh.old.triangles suspects.old }
     requires within { length edges.old ≤ budget }
     ensures surface { mesh.new.surface ≡ mesh.old.surface }
-    ensures step { Steps mesh.old.surface.d mesh.old.triangles edges.old budget mesh.new.triangles edges.new result }
+    ensures step { Steps mesh.old edges.old budget mesh.new edges.new result }
     ensures mesh { OnOk result (IsMesh mesh.new) }
     ensures suspects { OnOk result (MarksSuspects mesh.new.surface.d mesh.new.triangles suspects.new) }
 {
@@ -116,12 +116,12 @@ fn flip_next(
 ///
 /// It is refused as `Undecided` where so many flips as the budget leave an illegal edge, and as `Overflow` at the
 /// first site: `Circle` where an edge's circle value overflows and each edge before it is legal, also after the last
-/// flip, and `Flip` where the vector of a flip does. The cost is linear in the faces and in the flips.
+/// flip, and `Flip` where the vector of a flip does, or the search for a home of the new edge. The cost is linear in the faces and in the flips.
 pub fn find_delaunay<'a>(alloc: Global, mesh: Mesh<'a>, budget: u32) -> Result<Delaunay<'a>, Stop>
     requires { budget ≤ 1000000 }
-    ensures run { ReturnsRun (EndsRun mesh.entry.surface.d mesh.entry.triangles budget) result }
+    ensures run { ReturnsRun (EndsRun mesh.entry budget) result }
     // There is no other end: this is the one that the definition gives.
-    ensures only { (end : Result Flipped Stop) → EndsRun mesh.entry.surface.d mesh.entry.triangles budget end → ReturnsRun (λ returned. returned ≡ end) result }
+    ensures only { (end : Result Flipped Stop) → EndsRun mesh.entry budget end → ReturnsRun (λ returned. returned ≡ end) result }
     ensures surface { IfOk result (λ delaunay. delaunay.mesh.surface ≡ mesh.entry.surface) }
     ensures delaunay { IfOk result (λ delaunay. IsDelaunayRun mesh.entry.surface.d mesh.entry.triangles delaunay.edges delaunay.mesh.triangles) }
 {

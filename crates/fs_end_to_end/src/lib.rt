@@ -8,6 +8,8 @@ mod jobs;
 #[cfg(test)]
 mod running;
 #[cfg(test)]
+mod saddles;
+#[cfg(test)]
 mod segments;
 #[cfg(test)]
 mod strata;

@@ -7,3 +7,4 @@ pub mod CornerRays
 pub mod HalfPlaneTests
 pub mod SidesInTurn
 pub mod GluedSurface
+pub mod CornerSearch

@@ -1,5 +1,5 @@
 -- The triangles into which the polygons of a surface are cut first, by the corners of the polygons.
-use Rattle.std.specs.Prelude.{◌≡◌, ℕ, ◌+◌, ◌-◌, Bool, cond, eqb, Option, Some, List, [], ◌∷◌, ◌++◌, length, map, slice_index_or}
+use Rattle.std.specs.Prelude.{◌≡◌, ℕ, ◌+◌, ◌-◌, cond, eqb, Some, List, [], ◌∷◌, ◌++◌, length, map, slice_index_or}
 use Rattle.std.specs.List.{slice_get, flat_map, range_with_len}
 use Rattle.fs_ring.specs.Vector.{sub_vector}
 use Rattle.fs_quadratic.specs.Ring.{quadratic}

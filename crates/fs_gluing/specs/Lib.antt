@@ -18,3 +18,6 @@ pub mod SearchMarks
 pub mod Area
 pub mod Triangulation
 pub mod FirstCut
+pub mod Homes
+pub mod CrossingMap
+pub mod Exchanges

@@ -1,5 +1,5 @@
 -- Triangulations by their half-edges, which are numbered: side k of face f is half-edge 3·f + k.
-use Rattle.std.specs.Prelude.{◌≡◌, ℕ, ◌+◌, ◌-◌, ◌*◌, ◌%◌, ◌<◌, ◌≤◌, Bool, cond, eqb, ltb, List, length, slice_index_or}
+use Rattle.std.specs.Prelude.{◌≡◌, ℕ, ◌+◌, ◌-◌, ◌*◌, ◌%◌, ◌<◌, ◌≤◌, cond, eqb, ltb, List, length, slice_index_or}
 use Rattle.std.specs.List.{flat_map}
 use Rattle.fs_quadratic.specs.Ring.{Quadratic, quadratic, IsPositive}
 use Rattle.fs_plane.specs.Vector.{PlaneVector, vector_zero}

@@ -46,7 +46,8 @@ exists_at : (whole : Bool) (text : List ℕ) → ((r : Result Fraction NumberFau
 exists_at true text none = whole_exists text none
 exists_at false text none = reading_exists text none
 
-text_unique : (text : NumberText) (r r' : Result Fraction NumberFault) → ReadsText text r → ReadsText text r' → r ≡ r'
+-- a text is read in one way
+pub text_unique : (text : NumberText) (r r' : Result Fraction NumberFault) → ReadsText text r → ReadsText text r' → r ≡ r'
 text_unique text r r' a b = unique_at text.whole text.text r r' a b
 
 -- a text that is read with a fault is no number
@@ -72,6 +73,12 @@ pub bad_number_unique : (texts : List NumberText) (f g : NumberFault) → HasBad
 bad_number_unique texts f g u v =
     let same = first_unique IsNumber texts u.0 v.0 u.1 v.1 in
     err_equal f g (text_unique v.0 (Err f) (Err g) (subst (λ (text : NumberText). ReadsText text (Err f)) same u.2) v.2)
+
+-- a text that has to be a whole number, and isn't
+pub bad_whole : (text : List ℕ) (fault : NumberFault) → ReadsWhole text (Err fault) → HasBadNumber (record { whole = true; text = text } ∷ []) fault
+bad_whole text fault reads =
+    let it : NumberText = record { whole = true; text = text } in
+    (it, record { before = []; after = []; whole = refl; passed = tt; fails = λ is. number_not_bad it fault is reads }, reads)
 
 -- ---- pairs
 

@@ -1,10 +1,10 @@
 -- Words spell at most one statement, and which words spell none.
-use Rattle.std.proofs.Common.{◌≡◌, ◌≢◌, ℕ, ◌≤◌, List, [], ◌∷◌, eqb, refl, sym, ap, ◌∙◌, subst, arith}
+use Rattle.std.proofs.Common.{◌≡◌, ◌≢◌, ℕ, ◌≤◌, List, [], ◌∷◌, ◌⊎◌, eqb, inl, inr, refl, sym, ap, ◌∙◌, subst, arith}
 use Rattle.std.specs.Prelude.{codes, ◌==◌, if◌then◌else◌}
 use Rattle.std.specs.Str.{bytes_eq}
 use Rattle.fs_plane.specs.declared.corners.Corner.{Corner}
 use Rattle.fs_job.specs.Pieces.{pieces}
-use Rattle.fs_job.specs.Statement.{Pair, SpellsNumeral, SpellsCorner, IsPair, ArePairs, StatedCommand, check, stratum, segment, delaunay, cells, SpellsCommand, Statement, field_line, polygon_line, glue_line, command_line, end_line, SpellsStatement}
+use Rattle.fs_job.specs.Statement.{Pair, SpellsNumeral, SpellsCorner, IsPair, ArePairs, StatedCommand, check, stratum, segment, delaunay, cells, saddles, SpellsCommand, Statement, field_line, polygon_line, glue_line, command_line, end_line, SpellsStatement}
 use Rattle.fs_job.specs.Line.{SpellsField, SpellsGlue, SpellsSegment}
 use Rattle.fs_lists.proofs.Equal.{heads_equal, tails_equal}
 use Rattle.fs_job.proofs.Pairs.{pair_unique, pairs_unique}
@@ -66,6 +66,7 @@ command_word stratum = codes "stratum"
 command_word (segment start pair) = codes "segment"
 command_word delaunay = codes "delaunay"
 command_word cells = codes "cells"
+command_word (saddles limit) = codes "saddles"
 
 -- the first word of a statement
 abbrev statement_word : Statement → List ℕ
@@ -82,6 +83,7 @@ SpellsArguments rest stratum = rest ≡ []
 SpellsArguments rest (segment start pair) = SpellsSegment rest start pair
 SpellsArguments rest delaunay = rest ≡ []
 SpellsArguments rest cells = rest ≡ []
+SpellsArguments rest (saddles limit) = rest ≡ limit ∷ []
 
 -- the words after it spell the rest of a statement
 abbrev SpellsRest : List (List ℕ) → Statement → Type 0
@@ -98,6 +100,7 @@ command_parts words stratum s = ([], s, refl)
 command_parts words (segment start pair) s = (s.0 ∷ s.1 ∷ [], s.2, (s.0, s.1, refl, s.3, s.4))
 command_parts words delaunay s = ([], s, refl)
 command_parts words cells s = ([], s, refl)
+command_parts words (saddles limit) s = (limit ∷ [], s, refl)
 
 -- the first word of a statement, and what the others spell
 spelled_parts : (words : List (List ℕ)) (s : Statement) → SpellsStatement words s → (rest : List (List ℕ)) × (words ≡ statement_word s ∷ rest) × SpellsRest rest s
@@ -130,6 +133,7 @@ command_kind stratum = 5
 command_kind (segment start pair) = 6
 command_kind delaunay = 7
 command_kind cells = 8
+command_kind (saddles limit) = 9
 
 -- a number for each kind of statement, and for each command
 abbrev kind : Statement → ℕ
@@ -150,7 +154,8 @@ kind_of_word name =
     else if bytes_eq name (codes "stratum") then 5
     else if bytes_eq name (codes "segment") then 6
     else if bytes_eq name (codes "delaunay") then 7
-    else 8
+    else if bytes_eq name (codes "cells") then 8
+    else 9
 
 kind_of_command_word : (stated : StatedCommand) → kind_of_word (command_word stated) ≡ command_kind stated
 kind_of_command_word check = refl
@@ -158,6 +163,7 @@ kind_of_command_word stratum = refl
 kind_of_command_word (segment start pair) = refl
 kind_of_command_word delaunay = refl
 kind_of_command_word cells = refl
+kind_of_command_word (saddles limit) = refl
 
 kind_of_statement_word : (s : Statement) → kind_of_word (statement_word s) ≡ kind s
 kind_of_statement_word (field_line d) = refl
@@ -176,6 +182,7 @@ command_kind_least stratum = omega arith
 command_kind_least (segment start pair) = omega arith
 command_kind_least delaunay = omega arith
 command_kind_least cells = omega arith
+command_kind_least (saddles limit) = omega arith
 
 -- ---- lines whose first word is known, and whose other words spell nothing
 
@@ -219,6 +226,7 @@ arguments_not_segment rest none stratum k shows = absurd (omega arith)
 arguments_not_segment rest none (segment start pair) k shows = none start pair shows
 arguments_not_segment rest none delaunay k shows = absurd (omega arith)
 arguments_not_segment rest none cells k shows = absurd (omega arith)
+arguments_not_segment rest none (saddles limit) k shows = absurd (omega arith)
 
 -- words after `segment` that aren't a corner and a pair
 pub not_segment_command : (word : List ℕ) (rest : List (List ℕ)) → word ≡ codes "segment" → ((start : Corner) (pair : Pair) → ¬ SpellsSegment rest start pair) → (stated : StatedCommand) → ¬ SpellsCommand (word ∷ rest) stated
@@ -232,26 +240,42 @@ not_segment_command word rest named none stated shows =
 abbrev bare : ℕ → StatedCommand
 bare kind = if kind == 4 then check else if kind == 5 then stratum else if kind == 7 then delaunay else cells
 
-bare_of_kind : (stated : StatedCommand) → command_kind stated ≢ 6 → stated ≡ bare (command_kind stated)
+-- the numbers of the commands with arguments
+abbrev HasArguments : ℕ → Type 0
+HasArguments kind = (kind ≡ 6) ⊎ (kind ≡ 9)
+
+bare_of_kind : (stated : StatedCommand) → ¬ HasArguments (command_kind stated) → stated ≡ bare (command_kind stated)
 bare_of_kind check other = refl
 bare_of_kind stratum other = refl
-bare_of_kind (segment start pair) other = absurd (other refl)
+bare_of_kind (segment start pair) other = absurd (other (inl refl))
 bare_of_kind delaunay other = refl
 bare_of_kind cells other = refl
+bare_of_kind (saddles limit) other = absurd (other (inr refl))
 
 -- commands without arguments are equal where their numbers are
-bare_unique : (c e : StatedCommand) → command_kind c ≡ command_kind e → command_kind c ≢ 6 → c ≡ e
-bare_unique c e k other = bare_of_kind c other ∙ (ap bare k ∙ sym (bare_of_kind e (λ six. other (k ∙ six))))
+bare_unique : (c e : StatedCommand) → command_kind c ≡ command_kind e → ¬ HasArguments (command_kind c) → c ≡ e
+bare_unique c e k other = bare_of_kind c other ∙ (ap bare k ∙ sym (bare_of_kind e (λ has. other (subst HasArguments (sym k) has))))
+
+no_arguments : (kind : ℕ) → kind ≢ 6 → kind ≢ 9 → ¬ HasArguments kind
+no_arguments kind six nine (inl e) = six e
+no_arguments kind six nine (inr e) = nine e
 
 arguments_unique : (rest : List (List ℕ)) (c e : StatedCommand) → command_kind c ≡ command_kind e → SpellsArguments rest c → SpellsArguments rest e → c ≡ e
-arguments_unique rest check e k a b = bare_unique check e k (omega arith)
-arguments_unique rest stratum e k a b = bare_unique stratum e k (omega arith)
-arguments_unique rest delaunay e k a b = bare_unique delaunay e k (omega arith)
-arguments_unique rest cells e k a b = bare_unique cells e k (omega arith)
+arguments_unique rest check e k a b = bare_unique check e k (no_arguments 4 (omega arith) (omega arith))
+arguments_unique rest stratum e k a b = bare_unique stratum e k (no_arguments 5 (omega arith) (omega arith))
+arguments_unique rest delaunay e k a b = bare_unique delaunay e k (no_arguments 7 (omega arith) (omega arith))
+arguments_unique rest cells e k a b = bare_unique cells e k (no_arguments 8 (omega arith) (omega arith))
 arguments_unique rest (segment start pair) check k a b = absurd (omega arith)
 arguments_unique rest (segment start pair) stratum k a b = absurd (omega arith)
 arguments_unique rest (segment start pair) delaunay k a b = absurd (omega arith)
 arguments_unique rest (segment start pair) cells k a b = absurd (omega arith)
+arguments_unique rest (segment start pair) (saddles limit) k a b = absurd (omega arith)
+arguments_unique rest (saddles limit) check k a b = absurd (omega arith)
+arguments_unique rest (saddles limit) stratum k a b = absurd (omega arith)
+arguments_unique rest (saddles limit) (segment start pair) k a b = absurd (omega arith)
+arguments_unique rest (saddles limit) delaunay k a b = absurd (omega arith)
+arguments_unique rest (saddles limit) cells k a b = absurd (omega arith)
+arguments_unique rest (saddles limit) (saddles limit') k a b = ap saddles (only_word_unique limit limit' rest a b)
 arguments_unique rest (segment start pair) (segment start' pair') k a b =
     let words = two_words rest (a.1 ∷ []) a.0 b.0 b.1 a.2 b.2 in
     let second = heads_equal b.1 a.1 [] [] (sym words.1) in

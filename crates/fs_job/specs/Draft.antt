@@ -15,7 +15,7 @@ use Rattle.fs_gluing.specs.declared.shapes.Glue.{Glue}
 use Rattle.fs_gluing.specs.declared.shapes.Point.{Point}
 use Rattle.fs_job.specs.declared.job.Command.{Command}
 use Rattle.fs_job.specs.declared.job.Command.TheVariants as commands
-use Rattle.fs_job.specs.Statement.{Pair, StatedCommand, check, stratum, segment, delaunay, cells, NumberText, Statement, field_line, polygon_line, glue_line, command_line, end_line, number_texts}
+use Rattle.fs_job.specs.Statement.{Pair, StatedCommand, check, stratum, segment, delaunay, cells, saddles, NumberText, Statement, field_line, polygon_line, glue_line, command_line, end_line, number_texts}
 
 -- what the lines of a job so far said
 pub record Draft : Type 0 where
@@ -106,6 +106,7 @@ HasZeroDirection stratum = ⊥
 HasZeroDirection (segment start pair) = (point : Point) × IsPoint pair point × IsOrigin point
 HasZeroDirection delaunay = ⊥
 HasZeroDirection cells = ⊥
+HasZeroDirection (saddles limit) = ⊥
 
 -- a statement on the line with the number n makes no sense, though its numbers are numbers, which is this fault: the d is that of no field, or a direction is 0,0
 abbrev pub IsSenseless : ℕ → Statement → Fault → Type 0
@@ -129,6 +130,7 @@ IsCommand n stratum command = command ≡ commands.Stratum
 IsCommand n (segment start pair) command = (point : Point) × IsPoint pair point × (command ≡ commands.Segment n start point)
 IsCommand n delaunay command = command ≡ commands.Delaunay
 IsCommand n cells command = command ≡ commands.Cells
+IsCommand n (saddles text) command = (limit : Fraction) × ReadsWhole text (Ok limit) × (command ≡ commands.Saddles limit.num)
 
 -- the progress after the line with the number n: the draft with the statement added
 abbrev pub Adds : ℕ → Draft → Statement → Progress → Type 0

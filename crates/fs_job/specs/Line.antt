@@ -10,7 +10,7 @@ use Rattle.fs_job.specs.declared.statements.Line.TheVariants as lines
 use Rattle.fs_job.specs.declared.statements.Stated.{Stated}
 use Rattle.fs_job.specs.declared.statements.Stated.TheVariants as stated
 use Rattle.fs_job.specs.Pieces.{pieces, words_of}
-use Rattle.fs_job.specs.Statement.{Pair, StatedCommand, check, stratum, segment, delaunay, cells, Statement, field_line, polygon_line, glue_line, command_line, end_line, SpellsNumeral, SpellsCorner, IsPair, ArePairs, pair_texts}
+use Rattle.fs_job.specs.Statement.{Pair, StatedCommand, check, stratum, segment, delaunay, cells, saddles, Statement, field_line, polygon_line, glue_line, command_line, end_line, SpellsNumeral, SpellsCorner, IsPair, ArePairs, NumberText, pair_texts, argument_texts}
 use Rattle.fs_job.specs.Draft.{HasBadNumber, number_fault, IsPoint, IsOrigin}
 
 -- what was found has P; where nothing was found, nothing has P
@@ -55,6 +55,7 @@ command_of stated.Stratum = stratum
 command_of (stated.Segment start pair) = segment start (pair_of pair.now)
 command_of stated.Delaunay = delaunay
 command_of stated.Cells = cells
+command_of (stated.Saddles limit) = saddles limit.now
 
 -- what a line states
 abbrev pub statement_of : Line → Statement
@@ -77,9 +78,13 @@ HasPairs line = Unit {0}
 
 -- ---- the numbers of a command
 
+-- a text on the line with the number n is no number, by this fault
+abbrev pub IsNumberFault : ℕ → List NumberText → Fault → Type 0
+IsNumberFault n texts fault = (bad : NumberFault) × HasBadNumber texts bad × (fault ≡ number_fault n bad)
+
 -- a pair on the line with the number n is no direction, by this fault: a text is no number, or both numbers are 0
 abbrev pub IsDirectionFault : ℕ → Pair → Fault → Type 0
-IsDirectionFault n pair fault = ((bad : NumberFault) × HasBadNumber (pair_texts pair) bad × (fault ≡ number_fault n bad))
+IsDirectionFault n pair fault = IsNumberFault n (pair_texts pair) fault
     ⊎ ((point : Point) × IsPoint pair point × IsOrigin point × (fault ≡ faults.ZeroDirection n))
 
 -- this is the fault of the numbers of a command on the line with the number n
@@ -89,3 +94,4 @@ IsArgumentFault n stratum fault = ⊥
 IsArgumentFault n (segment start pair) fault = IsDirectionFault n pair fault
 IsArgumentFault n delaunay fault = ⊥
 IsArgumentFault n cells fault = ⊥
+IsArgumentFault n (saddles limit) fault = IsNumberFault n (argument_texts (saddles limit)) fault

@@ -22,3 +22,4 @@ HasDirection commands.Stratum = Unit {0}
 HasDirection (commands.Segment n start v) = ¬ IsOrigin v
 HasDirection commands.Delaunay = Unit {0}
 HasDirection commands.Cells = Unit {0}
+HasDirection (commands.Saddles limit) = Unit {0}

@@ -1,5 +1,5 @@
 -- What a line of a job states, its numbers being still texts.
-use Rattle.std.specs.Prelude.{◌≡◌, ℕ, ◌≤◌, Bool, false, List, [], ◌∷◌, ◌==◌, length, Contains, codes}
+use Rattle.std.specs.Prelude.{◌≡◌, ℕ, ◌≤◌, Bool, true, false, List, [], ◌∷◌, ◌==◌, length, Contains, codes}
 use Rattle.std.specs.List.{flat_map}
 use Rattle.std.specs.Str.Parse.{IsNumeral, digits_value}
 use Rattle.fs_plane.specs.declared.corners.Corner.{Corner}
@@ -42,6 +42,7 @@ pub data StatedCommand : Type 0 where
   segment : Corner → Pair → StatedCommand
   delaunay : StatedCommand
   cells : StatedCommand
+  saddles : List ℕ → StatedCommand
 
 -- what a line states
 pub data Statement : Type 0 where
@@ -53,7 +54,7 @@ pub data Statement : Type 0 where
 
 -- the words by which a command is named
 abbrev pub command_words : List (List ℕ)
-command_words = codes "check" ∷ codes "stratum" ∷ codes "segment" ∷ codes "delaunay" ∷ codes "cells" ∷ []
+command_words = codes "check" ∷ codes "stratum" ∷ codes "segment" ∷ codes "delaunay" ∷ codes "cells" ∷ codes "saddles" ∷ []
 
 -- the words of each command
 abbrev pub SpellsCommand : List (List ℕ) → StatedCommand → Type 0
@@ -63,6 +64,7 @@ SpellsCommand words (segment start pair) =
     (start_text : List ℕ) × (pair_text : List ℕ) × (words ≡ codes "segment" ∷ start_text ∷ pair_text ∷ []) × SpellsCorner start_text start × IsPair pair_text pair
 SpellsCommand words delaunay = words ≡ codes "delaunay" ∷ []
 SpellsCommand words cells = words ≡ codes "cells" ∷ []
+SpellsCommand words (saddles limit) = words ≡ codes "saddles" ∷ limit ∷ []
 
 -- the words spell this statement
 abbrev pub SpellsStatement : List (List ℕ) → Statement → Type 0
@@ -89,6 +91,7 @@ argument_texts stratum = []
 argument_texts (segment start pair) = pair_texts pair
 argument_texts delaunay = []
 argument_texts cells = []
+argument_texts (saddles limit) = record { whole = true; text = limit } ∷ []
 
 -- the texts of a statement's numbers, from left to right
 abbrev pub number_texts : Statement → List NumberText

@@ -1,13 +1,15 @@
 // The commands that lines state, with their numbers read.
 
-ghost use Rattle.std.specs.Prelude.{◌↔◌, IsTrue, IfOk, IfErr};
-ghost use Rattle.fs_job.specs.Statement.{IsPair};
-ghost use Rattle.fs_job.specs.Draft.{IsPoint, IsOrigin, HasZeroDirection, IsCommand};
-ghost use Rattle.fs_job.specs.Line.{pair_of, command_of, HasPair, IsDirectionFault, IsArgumentFault};
+ghost use Rattle.std.specs.Prelude.{◌≡◌, ◌↔◌, IsTrue, Ok, IfOk, IfErr};
+ghost use Rattle.fs_fraction.specs.Fraction.{Fraction};
+ghost use Rattle.fs_job.specs.Statement.{IsPair, saddles, argument_texts};
+ghost use Rattle.fs_job.specs.Draft.{IsPoint, ReadsWhole, IsOrigin, HasZeroDirection, IsCommand};
+ghost use Rattle.fs_job.specs.Line.{pair_of, command_of, HasPair, IsNumberFault, IsDirectionFault, IsArgumentFault};
 
 use crate::job::Command;
 use crate::points::{number_fault, read_point};
 use crate::statements::Stated;
+use fs_fraction::read_number;
 use fs_gluing::{Fault, Point};
 use fs_quadratic::Elem;
 
@@ -33,6 +35,18 @@ fn read_direction(number: u32, pair: &[u8]) -> Result<Point, Fault>
     }
 }
 
+// The whole number that a text on the line with this number spells.
+fn read_whole(number: u32, text: &[u8]) -> Result<Elem, Fault>
+    ensures whole { IfOk result (λ n. (x : Fraction) × ReadsWhole text.now (Ok x) × (n ≡ x.num)) }
+    ensures fault { IfErr result (IsNumberFault number (argument_texts (saddles text.now))) }
+{
+    match read_number(text) {
+        Ok(_) if text.contains(&b'/') => Err(Fault::BadNumber { line: number }),
+        Ok(x) => Ok(x.num()),
+        Err(fault) => Err(number_fault(number, fault)),
+    }
+}
+
 // The command that the line with this number states.
 pub fn read_command(number: u32, stated: Stated<'_>) -> Result<Command, Fault>
     requires { HasPair stated }
@@ -50,5 +64,8 @@ pub fn read_command(number: u32, stated: Stated<'_>) -> Result<Command, Fault>
         }),
         Stated::Delaunay => Ok(Command::Delaunay),
         Stated::Cells => Ok(Command::Cells),
+        Stated::Saddles { limit } => Ok(Command::Saddles {
+            limit: read_whole(number, limit)?,
+        }),
     }
 }

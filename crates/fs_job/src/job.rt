@@ -5,7 +5,7 @@ ghost use Rattle.fs_job.specs.declared.job.JobStop.TheVariants.{NoMemory};
 
 use fs_gluing::{Fault, Point, Sequence, Shape};
 use fs_plane::Corner;
-use fs_quadratic::Field;
+use fs_quadratic::{Elem, Field};
 use std::alloc::AllocError;
 
 /// What a job asks of its surface.
@@ -22,6 +22,8 @@ pub enum Command {
     Delaunay,
     /// Find the cells of the Delaunay triangulation: its faces, joined where they share a circle.
     Cells,
+    /// List the saddle connections of a squared length of at most this number, which is a whole one.
+    Saddles { limit: Elem },
 }
 
 /// How a job describes its surface.

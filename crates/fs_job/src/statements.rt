@@ -28,6 +28,7 @@ pub enum Stated<'a> {
     Segment { start: Corner, pair: &'a [u8] },
     Delaunay,
     Cells,
+    Saddles { limit: &'a [u8] },
 }
 
 // What a line states: its numbers are still texts.
@@ -126,19 +127,12 @@ fn segment_words(words: &[u8]) -> Option<(Corner, &[u8])>
     Some((corner(start)?, pair))
 }
 
-// The command that a first word names, with the words after it.
-fn stated_command<'a>(word: &[u8], words: &'a [u8]) -> Option<Stated<'a>>
+// The command without arguments that a word names.
+fn bare_command<'a>(word: &[u8]) -> Option<Stated<'a>>
     ensures { MatchOption result
-        ((command : StatedCommand) → ¬ SpellsCommand (word.now ∷ words_of words.now) command)
-        (λ stated. Contains command_words word.now × SpellsCommand (word.now ∷ words_of words.now) (command_of stated) × HasPair stated) }
+        ((command : StatedCommand) → ¬ SpellsCommand (word.now ∷ []) command)
+        (λ stated. Contains command_words word.now × SpellsCommand (word.now ∷ []) (command_of stated) × HasPair stated) }
 {
-    if word == b"segment".as_slice() {
-        let (start, pair) = segment_words(words)?;
-        return Some(Stated::Segment { start, pair });
-    }
-    if next_word(words).is_some() {
-        return None;
-    }
     if word == b"check".as_slice() {
         Some(Stated::Check)
     } else if word == b"stratum".as_slice() {
@@ -150,6 +144,26 @@ fn stated_command<'a>(word: &[u8], words: &'a [u8]) -> Option<Stated<'a>>
     } else {
         None
     }
+}
+
+// The command that a first word names, with the words after it.
+fn stated_command<'a>(word: &[u8], words: &'a [u8]) -> Option<Stated<'a>>
+    ensures { MatchOption result
+        ((command : StatedCommand) → ¬ SpellsCommand (word.now ∷ words_of words.now) command)
+        (λ stated. Contains command_words word.now × SpellsCommand (word.now ∷ words_of words.now) (command_of stated) × HasPair stated) }
+{
+    if word == b"segment".as_slice() {
+        let (start, pair) = segment_words(words)?;
+        return Some(Stated::Segment { start, pair });
+    }
+    if word == b"saddles".as_slice() {
+        let limit = only_word(words)?;
+        return Some(Stated::Saddles { limit });
+    }
+    if next_word(words).is_some() {
+        return None;
+    }
+    bare_command(word)
 }
 
 // What a line states that isn't blank, or `None` where it states nothing.

@@ -22,7 +22,7 @@ const SQUARE: [&str; 7] = [
 
 // What replaces one of its lines, numbered from 1, and the name of the result. A fault that has
 // a line has this one.
-static CHANGES: [(usize, &str, &str); 133] = [
+static CHANGES: [(usize, &str, &str); 148] = [
     (1, "Flatsurf 1", "BadHeader"),
     (1, "flatsurf 1 1", "BadHeader"),
     (1, "flatsurf 3", "BadHeader"),
@@ -155,6 +155,21 @@ static CHANGES: [(usize, &str, &str); 133] = [
     (6, "cells\t", "read"),
     (6, "stratum", "read"),
     (6, "\tstratum \r", "read"),
+    (6, "saddle 1", "BadLine"),
+    (6, "saddles", "BadLine"),
+    (6, "saddles 1 2", "BadLine"),
+    (6, "Saddles 1", "BadLine"),
+    (6, "saddles x", "BadNumber"),
+    (6, "saddles 1,0", "BadNumber"),
+    (6, "saddles 4/2", "BadNumber"),
+    (6, "saddles 1/0", "BadNumber"),
+    (6, "saddles 1+1/2r", "BadNumber"),
+    (6, "saddles 1/1000000000000000000", "Wide"),
+    (6, "saddles 1234567890123456789", "Wide"),
+    (6, "saddles 1", "read"),
+    (6, "saddles -1", "read"),
+    (6, "saddles 1r", "read"),
+    (6, "\tsaddles 007-0r \r", "read"),
     (6, "won top 1", "BadLine"),
     (6, "check\x00", "NotAscii"),
     (6, " check", "read"),

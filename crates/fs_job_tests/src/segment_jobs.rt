@@ -270,18 +270,27 @@ fn expect_segment(
     }
 }
 
+// That a command asks for the saddle list with this limit.
+fn expect_limit(rt: &impl Abort, command: &Command, p: i128, q: i128) {
+    match command {
+        Command::Saddles { limit } => assert!(rt; limit.p() == p && limit.q() == q),
+        _ => panic!(rt; "no saddles"),
+    }
+}
+
 #[test]
 fn what_a_segment_line_says(rt: HostRuntime) -> Result<(), Fail> {
     let text =
-        b"flatsurf 1\nfield 2\n\npolygon\ncheck\nsegment 0007.32 2/4-3r,0\n\n segment 1.0 0,-5\nstratum\ndelaunay\ncells\nend";
+        b"flatsurf 1\nfield 2\n\npolygon\ncheck\nsegment 0007.32 2/4-3r,0\n\n segment 1.0 0,-5\nstratum\ndelaunay\ncells\nsaddles 12-3r\nend";
     let job = read_job(rt.alloc(), text).ok().ok_or("no job")?;
     let commands = job.commands.as_slice();
-    assert!(rt; commands.len() == 6);
+    assert!(rt; commands.len() == 7);
     assert!(rt; matches!(commands[0], Command::Check));
     expect_segment(&rt, &commands[1], 6, Corner::new(7, 32), "1/2-3r", "0");
     expect_segment(&rt, &commands[2], 8, Corner::new(1, 0), "0", "-5");
     assert!(rt; matches!(commands[3], Command::Stratum));
     assert!(rt; matches!(commands[4], Command::Delaunay));
     assert!(rt; matches!(commands[5], Command::Cells));
+    expect_limit(&rt, &commands[6], 12, -3);
     Ok(())
 }

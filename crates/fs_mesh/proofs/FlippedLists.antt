@@ -63,31 +63,35 @@ module _ {d : ℕ} (L : IsOrderedRing (quadratic d) (IsPositive d)) (t : Triangu
       let next = triangles.next_side in
       (moves h h_side, (moves e e_side, (moves b (before h h_side), (moves c (next e e_side), (moves g (before e e_side), (moves a (next h h_side), tt))))))
 
-  -- ---- vectors
+  -- ---- an item for each half-edge: vectors, homes
 
-  module _ (across : PlaneVector) where
-    -- the vector that half-edge y has after the flip, at its moved name
-    abbrev vector_after : ℕ → PlaneVector
-    vector_after y = cond (eqb y h) across (cond (eqb y e) (vector_neg across) (edge_vector t y))
+  module _ {B : Type 0} (none : B) (items : List B) (of_edge of_twin : B) where
+    -- the item of half-edge y
+    abbrev item : ℕ → B
+    item y = get_or items y none
 
-    -- the vectors after the writes
-    abbrev pub vectors_after : List PlaneVector
-    vectors_after = set (set (set (set (set (set t.vectors h across) e (vector_neg across)) a (edge_vector t b)) b (edge_vector t c)) c (edge_vector t g)) g (edge_vector t a)
+    -- the item that half-edge y has after the flip, at its moved name
+    abbrev item_after : ℕ → B
+    item_after y = cond (eqb y h) of_edge (cond (eqb y e) of_twin (item y))
 
-    vector_of_edge : vector_after h ≡ across
-    vector_of_edge = chosen eqb_tells_names {x = h} {y = h} across (cond (eqb h e) (vector_neg across) (edge_vector t h)) refl
+    -- the items after the writes
+    abbrev pub items_after : List B
+    items_after = set (set (set (set (set (set items h of_edge) e of_twin) a (item b)) b (item c)) c (item g)) g (item a)
 
-    vector_of_twin : vector_after e ≡ vector_neg across
-    vector_of_twin = not_chosen eqb_tells_names _ _ (λ f. hinge_names.edge_not_twin L eqb_tells_names triangles h h_side (sym f)) ∙ chosen eqb_tells_names {x = e} {y = e} (vector_neg across) (edge_vector t e) refl
+    item_of_edge : item_after h ≡ of_edge
+    item_of_edge = chosen eqb_tells_names {x = h} {y = h} of_edge (cond (eqb h e) of_twin (item h)) refl
 
-    vector_of_other : (y : ℕ) → y ≢ h → y ≢ e → vector_after y ≡ edge_vector t y
-    vector_of_other y n o = not_chosen eqb_tells_names _ _ n ∙ not_chosen eqb_tells_names _ _ o
+    item_of_twin : item_after e ≡ of_twin
+    item_of_twin = not_chosen eqb_tells_names _ _ (λ f. hinge_names.edge_not_twin L eqb_tells_names triangles h h_side (sym f)) ∙ chosen eqb_tells_names {x = e} {y = e} of_twin (item e) refl
 
-    vectors_written : vectors_after ≡ written vector_zero m vector_after t.vectors hinge
-    vectors_written = λ i.
-        set (set (set (set (set (set t.vectors
-        (moved_edge i) (of_edge i))
-        (moved_twin i) (of_twin i))
+    item_of_other : (y : ℕ) → y ≢ h → y ≢ e → item_after y ≡ item y
+    item_of_other y n o = not_chosen eqb_tells_names _ _ n ∙ not_chosen eqb_tells_names _ _ o
+
+    items_written : items_after ≡ written none m item_after items hinge
+    items_written = λ i.
+        set (set (set (set (set (set items
+        (moved_edge i) (sym item_of_edge i))
+        (moved_twin i) (sym item_of_twin i))
         (moved_prev i) (of_prev i))
         (moved_next_of_twin i) (of_next_of_twin i))
         (moved_prev_of_twin i) (of_prev_of_twin i))
@@ -111,37 +115,47 @@ module _ {d : ℕ} (L : IsOrderedRing (quadratic d) (IsPositive d)) (t : Triangu
         moved_next : g ≡ m a
         moved_next = sym (hinge_names.moved_next L eqb_tells_names triangles h h_side)
 
-        of_edge : across ≡ vector_after h
-        of_edge = sym vector_of_edge
+        of_prev : item b ≡ item_after b
+        of_prev = sym (item_of_other b (triangle_sides.prev_not_self L triangles h h_side) (λ f. triangle_sides.twin_not_prev L triangles h h_side (sym f)))
 
-        of_twin : vector_neg across ≡ vector_after e
-        of_twin = sym vector_of_twin
+        of_next_of_twin : item c ≡ item_after c
+        of_next_of_twin = sym (item_of_other c (λ f. hinge_names.edge_not_next_of_twin L eqb_tells_names triangles h h_side (sym f)) (triangle_sides.next_not_self L triangles e e_side))
 
-        of_prev : edge_vector t b ≡ vector_after b
-        of_prev = sym (vector_of_other b (triangle_sides.prev_not_self L triangles h h_side) (λ f. triangle_sides.twin_not_prev L triangles h h_side (sym f)))
+        of_prev_of_twin : item g ≡ item_after g
+        of_prev_of_twin = sym (item_of_other g (λ f. hinge_names.edge_not_prev_of_twin L eqb_tells_names triangles h h_side (sym f)) (triangle_sides.prev_not_self L triangles e e_side))
 
-        of_next_of_twin : edge_vector t c ≡ vector_after c
-        of_next_of_twin = sym (vector_of_other c (λ f. hinge_names.edge_not_next_of_twin L eqb_tells_names triangles h h_side (sym f)) (triangle_sides.next_not_self L triangles e e_side))
+        of_next : item a ≡ item_after a
+        of_next = sym (item_of_other a (triangle_sides.next_not_self L triangles h h_side) (λ f. triangle_sides.twin_not_next L triangles h h_side (sym f)))
 
-        of_prev_of_twin : edge_vector t g ≡ vector_after g
-        of_prev_of_twin = sym (vector_of_other g (λ f. hinge_names.edge_not_prev_of_twin L eqb_tells_names triangles h h_side (sym f)) (triangle_sides.prev_not_self L triangles e e_side))
+    -- the writes keep the length
+    pub length-items_after : length items_after ≡ length items
+    length-items_after = ap length items_written ∙ length-written none m item_after items hinge
 
-        of_next : edge_vector t a ≡ vector_after a
-        of_next = sym (vector_of_other a (triangle_sides.next_not_self L triangles h h_side) (λ f. triangle_sides.twin_not_next L triangles h h_side (sym f)))
+    module _ (as_many : length items ≡ length t.vectors) where
+      -- after the writes each half-edge has its item at its moved name
+      item_moved : (y : ℕ) → IsSide G y → get_or items_after (m y) none ≡ item_after y
+      item_moved y s =
+          ap (λ xs. get_or xs (m y) none) items_written
+          ∙ is_written none m item_after one_to_one items hinge y (subst (λ n. AllByRecursion (λ z. m z < n) hinge) (sym as_many) hinge_moves) (elim (hinge_names.spot L eqb_tells_names triangles h h_side y) [
+            | edge f ↦ inl (inl f)
+            | twin_edge f ↦ inl (inr (inl f))
+            | before_edge f ↦ inl (inr (inr (inl f)))
+            | after_twin f ↦ inl (inr (inr (inr (inl f))))
+            | before_twin f ↦ inl (inr (inr (inr (inr (inl f)))))
+            | after_edge f ↦ inl (inr (inr (inr (inr (inr (inl f))))))
+            | outside o ↦ inr (ap item (hinge_names.moved_outside L eqb_tells_names triangles h h_side o) ∙ sym (item_of_other y o.not_edge o.not_twin))
+          ])
 
-    -- after the writes each half-edge has its vector at its moved name
-    vector_moved : (y : ℕ) → IsSide G y → get_or vectors_after (m y) vector_zero ≡ vector_after y
-    vector_moved y s =
-        ap (λ xs. get_or xs (m y) vector_zero) vectors_written
-        ∙ is_written vector_zero m vector_after one_to_one t.vectors hinge y hinge_moves (elim (hinge_names.spot L eqb_tells_names triangles h h_side y) [
-          | edge f ↦ inl (inl f)
-          | twin_edge f ↦ inl (inr (inl f))
-          | before_edge f ↦ inl (inr (inr (inl f)))
-          | after_twin f ↦ inl (inr (inr (inr (inl f))))
-          | before_twin f ↦ inl (inr (inr (inr (inr (inl f)))))
-          | after_edge f ↦ inl (inr (inr (inr (inr (inr (inl f))))))
-          | outside o ↦ inr (ap (edge_vector t) (hinge_names.moved_outside L eqb_tells_names triangles h h_side o) ∙ sym (vector_of_other y o.not_edge o.not_twin))
-        ])
+      -- the edge has its new item, and so has its twin
+      pub item_at_edge : get_or items_after h none ≡ of_edge
+      item_at_edge = ap (λ x. get_or items_after x none) (sym (hinge_names.moved_edge L eqb_tells_names triangles h h_side)) ∙ item_moved h h_side ∙ item_of_edge
+
+      pub item_at_twin : get_or items_after e none ≡ of_twin
+      item_at_twin = ap (λ x. get_or items_after x none) (sym (hinge_names.moved_twin L eqb_tells_names triangles h h_side)) ∙ item_moved e e_side ∙ item_of_twin
+
+      -- each other half-edge has its own at its moved name
+      pub item_kept : (y : ℕ) → IsSide G y → y ≢ h → y ≢ e → get_or items_after (m y) none ≡ item y
+      item_kept y s n o = item_moved y s ∙ item_of_other y n o
 
   -- ---- twins
 
@@ -278,6 +292,10 @@ module _ {d : ℕ} (L : IsOrderedRing (quadratic d) (IsPositive d)) (t : Triangu
 
   -- ---- the flip
 
+  -- the vectors after the writes, where the new edge leads along this vector
+  abbrev pub vectors_after : PlaneVector → List PlaneVector
+  vectors_after across = items_after vector_zero t.vectors across (vector_neg across)
+
   -- the lists after the writes are the triangulation with the edge flipped
   pub flip_of_writes : length t.twins ≡ length t.vectors → {after : Triangulation} → after.vectors ≡ vectors_after (vector_add (edge_vector t g) (edge_vector t a)) → after.twins ≡ twins_after
       → IsFlipOf d t h after
@@ -288,11 +306,11 @@ module _ {d : ℕ} (L : IsOrderedRing (quadratic d) (IsPositive d)) (t : Triangu
       has = λ x. ap (ltb x) as_many_vectors;
       next = λ x. refl;
       prev = λ x. refl;
-      edge = vector_at h h_side (sym (hinge_names.moved_edge L eqb_tells_names triangles h h_side)) ∙ vector_of_edge across;
-      edge_back = vector_at e e_side (sym (hinge_names.moved_twin L eqb_tells_names triangles h h_side)) ∙ vector_of_twin across;
+      edge = vector_at h (item_at_edge vector_zero t.vectors across (vector_neg across) refl);
+      edge_back = vector_at e (item_at_twin vector_zero t.vectors across (vector_neg across) refl);
       twin_edge = twin_at h h_side (sym (hinge_names.moved_edge L eqb_tells_names triangles h h_side)) ∙ hinge_names.moved_twin L eqb_tells_names triangles h h_side;
       twin_back = twin_at e e_side (sym (hinge_names.moved_twin L eqb_tells_names triangles h h_side)) ∙ ap m (hinge_names.twin_e L eqb_tells_names triangles h h_side) ∙ hinge_names.moved_edge L eqb_tells_names triangles h h_side;
-      vector = λ x s n o. vector_at x s refl ∙ vector_of_other across x n o;
+      vector = λ x s n o. vector_at (m x) (item_kept vector_zero t.vectors across (vector_neg across) refl x s n o);
       twin = λ x s n o. twin_at x s refl;
     };
   }
@@ -301,10 +319,10 @@ module _ {d : ℕ} (L : IsOrderedRing (quadratic d) (IsPositive d)) (t : Triangu
       across = vector_add (edge_vector t g) (edge_vector t a)
 
       as_many_vectors : length after.vectors ≡ length t.vectors
-      as_many_vectors = ap length (vectors ∙ vectors_written across) ∙ length-written vector_zero m (vector_after across) t.vectors hinge
+      as_many_vectors = ap length vectors ∙ length-items_after vector_zero t.vectors across (vector_neg across)
 
-      vector_at : (y : ℕ) → IsSide G y → {x : ℕ} → x ≡ m y → edge_vector after x ≡ vector_after across y
-      vector_at y s f = (λ i. get_or (vectors i) (f i) vector_zero) ∙ vector_moved across y s
+      vector_at : (x : ℕ) {v : PlaneVector} → get_or (vectors_after across) x vector_zero ≡ v → edge_vector after x ≡ v
+      vector_at x is = ap (λ xs. get_or xs x vector_zero) vectors ∙ is
 
       twin_at : (y : ℕ) → IsSide G y → {x : ℕ} → x ≡ m y → edge_twin after x ≡ m (edge_twin t y)
       twin_at y s f = (λ i. get_or (twins i) (f i) 0) ∙ twin_moved as_many y s

@@ -20,7 +20,8 @@ module _ {d : ℕ} (L : IsOrderedRing (quadratic d) (IsPositive d)) (t : Triangu
   pub prev_twice : next_in_face (next_in_face h) ≡ prev_in_face h
   prev_twice = sym (triangles.prev h (side_of_number t h there))
 
-  prev_is_below : prev_in_face h < length t.vectors
+  -- it is a half-edge
+  pub prev_is_below : prev_in_face h < length t.vectors
   prev_is_below = number_of_side t (prev_in_face h) (triangle_sides.prev_side L triangles h (side_of_number t h there))
 
   -- from the end of h, the sides of the hinge lead back there

@@ -2,7 +2,10 @@ pub mod ListWrites
 pub mod HalfEdgeNumbers
 pub mod FlippedLists
 pub mod FacePositions
+pub mod SectorPlaces
+pub mod CornerTests
+pub mod HingeHalfEdges
+pub mod NewEdges
 pub mod MeshAfterFlip
 pub mod Arenas
-pub mod HingeHalfEdges
 pub mod FlippedArenas

@@ -1,11 +1,14 @@
 -- The mesh after a flip: its triangulation, and the cuts that lead to it.
-use Rattle.std.proofs.Common.{ℕ, ◌<◌, length, eqb, ◌∙◌}
+use Rattle.std.proofs.Common.{◌≡◌, ℕ, ◌<◌, length, eqb, Ok, sym, ap, ◌∙◌, subst, inl, inr}
 use mathlib.Core.Logic.{∥∥₁_map}
 use Rattle.fs_ring.specs.OrderedRing.{IsOrderedRing}
 use Rattle.fs_ring.specs.Direction.{InHalfPlane, inside}
 use Rattle.fs_quadratic.specs.Ring.{quadratic, IsPositive}
 use Rattle.fs_quadratic.proofs.Laws.{field_order}
 use Rattle.fs_quadratic.specs.Radicand.{IsRadicand}
+use Rattle.fs_plane.specs.declared.corners.Corner.{Corner}
+use Rattle.fs_plane.specs.Vector.{PlaneVector, vector_add, vector_neg}
+use Rattle.fs_plane.proofs.FormulaLaws.{sum_value}
 use Rattle.fs_paths.specs.SideGluing.{IsSide, AreGluedPolygons}
 use Rattle.fs_convex.specs.Turning.{DecidesHalfPlanes}
 use Rattle.fs_cuts.specs.EdgeRemoval.{without_edge}
@@ -14,18 +17,22 @@ use Rattle.fs_cuts.proofs.ListsOfSteps.{append}
 use Rattle.fs_cuts.proofs.RemovalGluing as removal_gluing
 use Rattle.fs_cuts.proofs.WithoutEdge as without
 use Rattle.fs_triangles.specs.Triangles.{AreTriangles}
-use Rattle.fs_triangles.specs.Flips.{IsConvexHinge}
+use Rattle.fs_triangles.specs.Flips.{moved, IsConvexHinge}
+use Rattle.fs_triangles.proofs.HingeNames as hinge_names
 use Rattle.fs_triangles.proofs.TriangleSides as triangle_sides
 use Rattle.fs_triangles.proofs.FlippedTriangles.{convex_of_circle, flipped_triangles}
 use Rattle.fs_triangles.proofs.FlippedConnections.{connected_after_flip}
 use Rattle.fs_triangles.proofs.FlipSteps.{flip_steps, cut_by_flipped_edge}
 use Rattle.fs_gluing.specs.SurfaceSides.{is_ahead}
-use Rattle.fs_gluing.specs.Triangulation.{Triangulation, IsTriangulation, face_sides}
+use Rattle.fs_gluing.specs.Homes.{home_of, IsInCorner}
+use Rattle.fs_gluing.specs.Polygons.{HasSide}
+use Rattle.fs_gluing.specs.Triangulation.{Triangulation, IsTriangulation, face_sides, edge_vector, edge_twin}
 use Rattle.fs_gluing.proofs.Sides.HalfPlaneTests.{decides_half_planes}
-use Rattle.fs_mesh.specs.Meshes.{MeshValue, IsMesh, IsIllegal}
-use Rattle.fs_mesh.specs.FlippedMeshes.{IsFlipOf, ArePastedAndCut}
-use Rattle.fs_mesh.proofs.HalfEdgeNumbers.{eqb_tells_names, side_of_number}
+use Rattle.fs_mesh.specs.Meshes.{MeshValue, IsMesh, IsIllegal, hinge_after, hinge_before_twin}
+use Rattle.fs_mesh.specs.FlippedMeshes.{IsFlipOf, ArePastedAndCut, IsMeshFlipped}
+use Rattle.fs_mesh.proofs.HalfEdgeNumbers.{eqb_tells_names, side_of_number, number_of_side}
 use Rattle.fs_mesh.proofs.FacePositions.{glued_faces}
+use Rattle.fs_mesh.proofs.NewEdges.{IsNewEdge, is_new_edge}
 
 module _ {d : ℕ} (radicand : IsRadicand d) {t : Triangulation} (is_triangulation : IsTriangulation d t) (h : ℕ) (there : h < length t.vectors) (illegal : IsIllegal d t h)
     {after : Triangulation} (flip : IsFlipOf d t h after) where
@@ -81,18 +88,58 @@ module _ {d : ℕ} (radicand : IsRadicand d) {t : Triangulation} (is_triangulati
         cut_after = cut_by_flipped_edge L test eqb_tells_names triangles glued h h_side convex flip.flip;
       }
 
--- a mesh is one after the flip of an illegal edge
-pub mesh_after : (m : MeshValue) → IsMesh m → (h : ℕ) → h < length m.triangles.vectors → IsIllegal m.surface.d m.triangles h → {after : Triangulation} → IsFlipOf m.surface.d m.triangles h after
-    → IsMesh (record { surface = m.surface; triangles = after })
-mesh_after m mesh h there illegal flip = record {
-  surface = mesh.surface;
-  triangulation = triangulation_after mesh.surface.radicand mesh.triangulation h there illegal flip;
-  cut = ∥∥₁_map mesh.cut (λ k. record {
-    named = k.named;
-    new = k.new;
-    old = k.old;
-    renumbering = k.renumbering;
-    glued = k.glued;
-    steps = append k.steps (steps_after mesh.surface.radicand mesh.triangulation h there illegal flip);
-  });
-}
+module _ (m : MeshValue) (mesh : IsMesh m) (h : ℕ) (there : h < length m.triangles.vectors) {after : MeshValue} (flip : IsMeshFlipped m h after) where
+  is_new : IsNewEdge m h flip.edge
+  is_new = is_new_edge m mesh h there (Ok flip.edge) flip.found
+
+  -- it leads along the sum
+  new_vector : flip.edge.vector ≡ vector_add (hinge_before_twin m.triangles h) (hinge_after m.triangles h)
+  new_vector = sum_value 0 (hinge_before_twin m.triangles h) (hinge_after m.triangles h) flip.edge.vector is_new.vector
+
+  -- the home of half-edge y after the flip
+  abbrev IsHomeAt : ℕ → Type 0
+  IsHomeAt y = HasSide m.surface.polygons (home_of after.homes y) × IsInCorner m.surface (home_of after.homes y) (edge_vector after.triangles y)
+
+  is_home : (y : ℕ) {c : Corner} {v : PlaneVector} → home_of after.homes y ≡ c → edge_vector after.triangles y ≡ v → HasSide m.surface.polygons c → IsInCorner m.surface c v → IsHomeAt y
+  is_home y {c} at leads has holds = (
+    subst (HasSide m.surface.polygons) (sym at) has,
+    subst (λ x. IsInCorner m.surface x (edge_vector after.triangles y)) (sym at) (subst (IsInCorner m.surface c) (sym leads) holds),
+  )
+
+  home_after : (y : ℕ) → y < length after.triangles.vectors → IsHomeAt y
+  home_after y below = elim (hinge_names.edge_or_moved L eqb_tells_names triangles h (side_of_number m.triangles h there) y (side_of_number m.triangles y (subst (λ n. y < n) flip.triangles.vectors below))) [
+    | inl e ↦ subst IsHomeAt (sym e) (is_home h flip.home (flip.triangles.flip.edge ∙ sym new_vector) is_new.home_there is_new.first.home.holds)
+    | inr (inl e) ↦
+        subst IsHomeAt (sym e) (is_home (edge_twin m.triangles h) flip.twin_home (flip.triangles.flip.edge_back ∙ ap vector_neg (sym new_vector)) is_new.twin_home_there is_new.first.twin_home.holds)
+    | inr (inr k) ↦
+        let named = number_of_side m.triangles k.name k.side in
+        subst IsHomeAt (sym k.is)
+        (is_home (moved eqb (face_sides m.triangles) h k.name) (flip.kept k.name (subst (λ n. k.name < n) (sym mesh.homes.as_many) named) k.not_edge k.not_twin)
+        (flip.triangles.flip.vector k.name k.side k.not_edge k.not_twin) (mesh.homes.corner k.name named) (mesh.homes.holds k.name named))
+  ]
+    where
+      L : IsOrderedRing (quadratic m.surface.d) (IsPositive m.surface.d)
+      L = field_order mesh.surface.radicand
+
+      triangles : AreTriangles (quadratic m.surface.d) (IsPositive m.surface.d) (face_sides m.triangles)
+      triangles = mesh.triangulation.triangles
+
+  -- a mesh is one after the flip of an illegal edge
+  pub mesh_after : IsIllegal m.surface.d m.triangles h → IsMesh after
+  mesh_after illegal = subst (λ s. IsMesh (record { surface = s; triangles = after.triangles; homes = after.homes })) (sym flip.surface) (record {
+    surface = mesh.surface;
+    triangulation = triangulation_after mesh.surface.radicand mesh.triangulation h there illegal flip.triangles;
+    cut = ∥∥₁_map mesh.cut (λ k. record {
+      named = k.named;
+      new = k.new;
+      old = k.old;
+      renumbering = k.renumbering;
+      glued = k.glued;
+      steps = append k.steps (steps_after mesh.surface.radicand mesh.triangulation h there illegal flip.triangles);
+    });
+    homes = record {
+      as_many = flip.homes ∙ mesh.homes.as_many ∙ sym flip.triangles.vectors;
+      corner = λ y below. (home_after y below).0;
+      holds = λ y below. (home_after y below).1;
+    };
+  })

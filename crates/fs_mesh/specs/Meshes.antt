@@ -1,22 +1,26 @@
 -- Meshes: a surface, and triangles that are equal to it up to cutting and pasting.
-use Rattle.std.specs.Prelude.{ℕ, Result}
+use Rattle.std.specs.Prelude.{ℕ, Result, List}
 use Rattle.fs_quadratic.specs.Ring.{Quadratic, IsPositive}
 use Rattle.fs_quadratic.specs.declared.steps.Place.{Place}
+use Rattle.fs_plane.specs.declared.corners.Corner.{Corner}
 use Rattle.fs_plane.specs.Formulas.{circle_after}
 use Rattle.fs_plane.specs.Vector.{PlaneVector, circle}
+use Rattle.fs_gluing.specs.Homes.{HasHomes}
 use Rattle.fs_gluing.specs.Surface.{GluedPolygons, IsSurface}
 use Rattle.fs_gluing.specs.Triangulation.{Triangulation, IsTriangulation, IsCutFrom, edge_vector, edge_twin, next_in_face, prev_in_face}
 
--- a surface and a triangulation, as contracts see a `Mesh`
+-- a surface, a triangulation, and the homes of its half-edges, which are corners of the surface, as contracts see a `Mesh`
 pub record MeshValue : Type 0 where
   pub surface : GluedPolygons
   pub triangles : Triangulation
+  pub homes : List Corner
 
--- the triangulation is one of the surface: some list of cuts, of cuts undone, and of renumberings leads from its polygons to the faces
+-- the triangulation is one of the surface: some list of cuts, of cuts undone, and of renumberings leads from its polygons to the faces; and each half-edge has its home
 pub record IsMesh (m : MeshValue) : Type 0 where
   pub surface : IsSurface m.surface
   pub triangulation : IsTriangulation m.surface.d m.triangles
   pub cut : ∥ IsCutFrom m.surface m.triangles ∥₁
+  pub homes : HasHomes m.surface m.triangles m.homes
 
 -- the hinge of half-edge h is the two triangles at its edge. From the end of h, counterclockwise, the first of its four sides is the half-edge after h
 abbrev pub hinge_after : Triangulation → ℕ → PlaneVector

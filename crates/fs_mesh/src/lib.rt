@@ -2,6 +2,7 @@
 #![tactic(auto)]
 
 mod arena;
+mod homes;
 mod meshes;
 
 pub use meshes::Mesh;

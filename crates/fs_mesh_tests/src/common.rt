@@ -35,10 +35,11 @@ pub struct Told {
     pub homes: &'static [Name],
 }
 
-// A triangulation: the vector and the twin of each half-edge.
+// A triangulation: the vector, the twin and the home of each half-edge.
 pub struct State {
     pub vectors: &'static [Vector],
     pub twins: &'static [u32],
+    pub homes: &'static [Name],
 }
 
 // The number of these parts.
@@ -57,7 +58,7 @@ fn point(rt: &impl Abort, parts: &Vector) -> Point {
 }
 
 // The scaled vector of these coordinates.
-fn vector(rt: &impl Abort, parts: Vector) -> V2 {
+pub fn vector(rt: &impl Abort, parts: Vector) -> V2 {
     V2 {
         x: elem(rt, parts.0),
         y: elem(rt, parts.1),
@@ -65,7 +66,7 @@ fn vector(rt: &impl Abort, parts: Vector) -> V2 {
 }
 
 // The corner of this name.
-fn corner(name: Name) -> Corner {
+pub fn corner(name: Name) -> Corner {
     Corner::new(name.0, name.1)
 }
 
@@ -170,11 +171,16 @@ fn expect_mesh_half_edge(rt: &impl Abort, mesh: &Mesh, state: &State, h: u32) {
     let k = h as usize;
     assert!(rt; k < state.vectors.len());
     assert!(rt; k < state.twins.len());
+    assert!(rt; k < state.homes.len());
     assert!(rt;
         mesh.vector(h) == vector(rt, state.vectors[k]),
         "vector of half-edge {h}"
     );
     assert!(rt; mesh.twin(h) == state.twins[k], "twin of half-edge {h}");
+    assert!(rt;
+        mesh.home_of(h) == corner(state.homes[k]),
+        "home of half-edge {h}"
+    );
     assert!(rt;
         mesh.next(mesh.next(mesh.next(h))) == h,
         "next half-edges of {h}"

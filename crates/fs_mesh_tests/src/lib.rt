@@ -1,4 +1,5 @@
-// Tests of public calls of fs_triangulate and fs_mesh: surfaces, the triangles of their first cuts, and flips.
+// Tests of public calls of fs_triangulate and fs_mesh: surfaces, the triangles of their first cuts, flips, and the corners
+// of vectors.
 #![tactic(auto)]
 
 #[cfg(test)]
@@ -7,6 +8,8 @@ mod common;
 mod cuts;
 #[cfg(test)]
 mod flips;
+#[cfg(test)]
+mod homes;
 #[cfg(test)]
 mod plans;
 #[cfg(test)]

@@ -6,3 +6,4 @@ pub mod Ends
 pub mod AlongSide
 pub mod EndUnique
 pub mod EndExists
+pub mod CornerRounds

@@ -4,3 +4,4 @@ pub mod StraightPaths
 pub mod Segments
 pub mod Passages
 pub mod Ends
+pub mod NextCorners

@@ -1,9 +1,9 @@
 -- The formulas of the plane as checked computations. Their places follow those of the steps before them.
-use Rattle.std.specs.Prelude.{ℕ, ◌+◌, Bool, true, false, Result, Ok}
-use Rattle.std.specs.Ordering.{is_gt}
+use Rattle.std.specs.Prelude.{ℕ, ◌+◌, if◌then◌else◌, Bool, true, false, Result, Ok}
+use Rattle.std.specs.Ordering.{is_gt, is_ge, is_le}
 use Rattle.std.specs.declared.cmp.Ordering.{Ordering}
 use Rattle.std.specs.declared.cmp.Ordering.TheVariants.{Less, Equal, Greater}
-use Rattle.fs_quadratic.specs.Ring.{Quadratic, sign}
+use Rattle.fs_quadratic.specs.Ring.{Quadratic, sign, compare}
 use Rattle.fs_quadratic.specs.Width.{Fits, MulFits}
 use Rattle.fs_quadratic.specs.declared.steps.Place.{Place}
 use Rattle.fs_plane.specs.Vector.{PlaneVector, vector_neg, cross, dot}
@@ -83,6 +83,36 @@ unfoldable pub is_convex_after : ℕ → Bool → ℕ → PlaneVector → PlaneV
 is_convex_after before straight d a b = do
   turn ← cross_after before d a b
   by_bend straight (sign d turn) (is_above_zero d (dot_after (before + 3) d a b))
+
+-- x ≤ y
+abbrev pub is_at_most : ℕ → Quadratic → Quadratic → Bool
+is_at_most d x y = is_le (compare d x y)
+
+-- whether the line of p and e comes within the squared distance `bound` of (0,0)
+unfoldable pub line_comes_within_after : ℕ → ℕ → PlaneVector → PlaneVector → Quadratic → Result Bool Place
+line_comes_within_after before d p e bound = do
+  area ← cross_after before d p e
+  square ← checked_product d (before + 4) area area
+  length ← norm_after (before + 4) d e
+  reach ← checked_product d (before + 8) bound length
+  Ok (is_at_most d square reach)
+
+-- whether a segment whose ends don't does: only where the nearest point of its line is between the ends
+unfoldable pub inner_comes_within_after : ℕ → ℕ → PlaneVector → PlaneVector → Quadratic → Result Bool Place
+inner_comes_within_after before d p q bound = do
+  e ← vector_difference_after before q p
+  leaving ← dot_after (before + 2) d p e
+  if is_ge (sign d leaving) then Ok false else do
+    arriving ← dot_after (before + 5) d q e
+    if is_le (sign d arriving) then Ok false else line_comes_within_after (before + 8) d p e bound
+
+-- whether the segment from p to q comes within the squared distance `bound` of (0,0)
+unfoldable pub comes_within_after : ℕ → ℕ → PlaneVector → PlaneVector → Quadratic → Result Bool Place
+comes_within_after before d p q bound = do
+  start ← norm_after before d p
+  if is_at_most d start bound then Ok true else do
+    end ← norm_after (before + 3) d q
+    if is_at_most d end bound then Ok true else inner_comes_within_after (before + 6) d p q bound
 
 -- all numbers of the cross product are within the width
 abbrev pub CrossFits : ℕ → PlaneVector → PlaneVector → Type 0

@@ -7,6 +7,7 @@ use Rattle.fs_ring.specs.Vector as plane
 use Rattle.fs_ring.specs.Vector.{Vector}
 use Rattle.fs_ring.specs.Direction.{InSector, InHalfPlane}
 use Rattle.fs_ring.specs.Circle.{IsInsideCircle}
+use Rattle.fs_ring.specs.Discs as discs
 use Rattle.fs_quadratic.specs.Ring.{Quadratic, quadratic, zero, one, add, neg, sign, IsPositive}
 use Rattle.fs_quadratic.specs.Width.{IsSmall, IsTiny}
 
@@ -96,6 +97,10 @@ abbrev pub upper_by_signs : Ordering → Ordering → Bool
 upper_by_signs Greater x = true
 upper_by_signs Equal x = is_gt x
 upper_by_signs Less x = false
+
+-- some point of the segment from p to q, both ends included, is at most so far from (0,0), by the squared distance
+abbrev pub ComesWithin : ℕ → PlaneVector → PlaneVector → Quadratic → Type 0
+ComesWithin d p q bound = discs.ComesWithin (quadratic d) (IsPositive d) p q bound
 
 -- the vector points into the upper half
 abbrev pub is_upper : ℕ → PlaneVector → Bool

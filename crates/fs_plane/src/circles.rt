@@ -38,7 +38,7 @@ fn find_circle(field: Field, a: V2, b: V2, c: V2, g: V2) -> Result<Elem, Place>
     }
 }
 
-// The circle value of vectors of any size. It stands apart, so that the tiny ones take no call.
+// The circle value of vectors of any size: a function of its own, so that the tiny ones take no call.
 #[inline(never)]
 #[tactic(auto, unfolding(crate::specs::Formulas::circle_after))]
 fn circle_checked(field: Field, a: V2, b: V2, c: V2, g: V2) -> Result<Elem, Place>

@@ -31,7 +31,7 @@ pub fn cross_after(before: u32, field: Field, a: V2, b: V2) -> Result<Elem, Plac
     }
 }
 
-// The cross product of vectors that may not be tiny. It stands apart, so that the tiny ones take no call.
+// The cross product of vectors that may not be tiny: a function of its own, so that the tiny ones take no call.
 #[inline(never)]
 fn cross_wide(before: u32, field: Field, a: V2, b: V2) -> Result<Elem, Place>
     requires { before + 3 < 2 ^ 32 }
@@ -65,7 +65,23 @@ pub fn dot(field: Field, a: V2, b: V2) -> Result<Elem, Place>
 }
 
 /// The dot product as a part of a formula, its places counted on from `before`.
+#[inline]
 pub fn dot_after(before: u32, field: Field, a: V2, b: V2) -> Result<Elem, Place>
+    requires { before + 3 < 2 ^ 32 }
+    ensures { result ≡ dot_after before field.d a b }
+{
+    if a.is_tiny() && b.is_tiny() {
+        Ok(dot_tiny(field, a, b))
+    } else {
+        // Made anew for the call: then tiny vectors need no place in memory.
+        let (a, b) = (V2 { x: a.x, y: a.y }, V2 { x: b.x, y: b.y });
+        dot_wide(before, field, a, b)
+    }
+}
+
+// The dot product of vectors that may not be tiny: a function of its own, so that the tiny ones take no call.
+#[inline(never)]
+fn dot_wide(before: u32, field: Field, a: V2, b: V2) -> Result<Elem, Place>
     requires { before + 3 < 2 ^ 32 }
     ensures { result ≡ dot_after before field.d a b }
 {
@@ -184,7 +200,7 @@ fn is_left(field: Field, a: V2, b: V2) -> Result<bool, Place>
 }
 
 // The cross product of small vectors, which always fits.
-fn cross_small(field: Field, a: V2, b: V2) -> Elem
+pub(crate) fn cross_small(field: Field, a: V2, b: V2) -> Elem
     requires left { IsSmallVector a }
     requires right { IsSmallVector b }
     ensures { result ≡ cross field.d a b }
@@ -204,7 +220,7 @@ pub(crate) fn cross_tiny(field: Field, a: V2, b: V2) -> Elem
 }
 
 // The dot product of small vectors, which always fits.
-fn dot_small(field: Field, a: V2, b: V2) -> Elem
+pub(crate) fn dot_small(field: Field, a: V2, b: V2) -> Elem
     requires left { IsSmallVector a }
     requires right { IsSmallVector b }
     ensures { result ≡ dot field.d a b }

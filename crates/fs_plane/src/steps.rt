@@ -3,6 +3,7 @@
 ghost use Rattle.std.specs.Prelude.{◌≡◌, ◌+◌, ◌<◌, ◌^◌};
 ghost use Rattle.fs_plane.specs.Formulas.{vector_sum_after, vector_difference_after};
 
+pub use crate::discs::comes_within_after;
 pub use crate::formulas::{cross_after, dot_after, norm_after};
 use crate::vector::V2;
 use fs_quadratic::Place;

@@ -44,9 +44,6 @@ neg_size_above z h = ap neg_ℤ (size_above z h)
 pub int_cmp-bits : {a b y z : ℤ} {r : Ordering} → r ≡ int_cmp (of_bits a) (of_bits b) → a ≡ y → InWidth y → b ≡ z → InWidth z → r ≡ int_cmp y z
 int_cmp-bits e f h g k = e ∙ (λ i. int_cmp (of_bits-is f h i) (of_bits-is g k i))
 
-pub abs_sub-bits : {a b y z : ℤ} {n : ℕ} → n ≡ unsigned_abs (of_bits a -ℤ of_bits b) → a ≡ y → InWidth y → b ≡ z → InWidth z → n ≡ unsigned_abs (y -ℤ z)
-abs_sub-bits e f h g k = e ∙ (λ i. unsigned_abs (of_bits-is f h i -ℤ of_bits-is g k i))
-
 -- ---- two numbers
 
 module _ (d : ℕ) (x y : Quadratic) where

@@ -14,3 +14,4 @@ pub mod Comparison
 pub mod WidthTests
 pub mod StepChains
 pub mod Tiny
+pub mod Squares

@@ -17,14 +17,15 @@ use Rattle.fs_quadratic.proofs.Laws.{quadratic_ring, quadratic_order}
 abbrev ComparesAs : Ordering → ℤ → ℤ → Type 0
 ComparesAs r y z = MatchOrdering r (y <ℤ z) (y ≡ z) (z <ℤ y)
 
-sign_from : (d : ℕ) (x : Quadratic) (a b c : Ordering) → ComparesAs a x.p (pos 0) → ComparesAs b x.q (pos 0)
+-- from the comparisons of the parts with 0, and of the squares
+pub sign_from : (d : ℕ) (x : Quadratic) (a b c : Ordering) → ComparesAs a x.p (pos 0) → ComparesAs b x.q (pos 0)
     → ComparesAs c (x.p *ℤ x.p) (pos d *ℤ (x.q *ℤ x.q)) → sign d x ≡ sign_by_parts a b c
 unfolding sign
 sign_from d x a b c ha hb hc =
     λ i. sign_by_parts (sym (int_cmp_is x.p (pos 0) a ha) i) (sym (int_cmp_is x.q (pos 0) b hb) i) (sym (int_cmp_is (x.p *ℤ x.p) (pos d *ℤ (x.q *ℤ x.q)) c hc) i)
 
 -- where the squares don't matter
-sign_without : (d : ℕ) (x : Quadratic) (a b : Ordering) → ComparesAs a x.p (pos 0) → ComparesAs b x.q (pos 0)
+pub sign_without : (d : ℕ) (x : Quadratic) (a b : Ordering) → ComparesAs a x.p (pos 0) → ComparesAs b x.q (pos 0)
     → sign d x ≡ sign_by_parts a b (int_cmp (x.p *ℤ x.p) (pos d *ℤ (x.q *ℤ x.q)))
 sign_without d x a b ha hb = sign_from d x a b (int_cmp (x.p *ℤ x.p) (pos d *ℤ (x.q *ℤ x.q))) ha hb (int_ranks (x.p *ℤ x.p) (pos d *ℤ (x.q *ℤ x.q)))
 

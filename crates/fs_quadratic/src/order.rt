@@ -1,4 +1,4 @@
-ghost use Rattle.std.specs.Prelude.{◌≡◌, ◌≢◌, ◌-ℤ◌, ◌↔◌, pos, neg_ℤ, unsigned_abs};
+ghost use Rattle.std.specs.Prelude.{◌<◌, ◌^◌, ◌≡◌, ◌≢◌, ◌-ℤ◌, ◌↔◌, pos, neg_ℤ, unsigned_abs};
 ghost use Rattle.std.specs.declared.cmp.Ordering.{Ordering};
 ghost use Rattle.fs_quadratic.specs.Ring.{neg, sign, compare, IsPositive, IsLess};
 
@@ -6,6 +6,9 @@ use crate::complete_quotient::CompleteQuotient;
 use crate::element::Elem;
 use crate::radicand::Field;
 use std::cmp::Ordering;
+
+// The least size of which the squares aren't compared.
+const SMALL: u128 = 1 << 58;
 
 impl Field {
     /// How x compares with 0. It never overflows, even where squares of the parts would.
@@ -45,6 +48,30 @@ impl Field {
         requires { x.p ≢ y.p }
         ensures { result ≡ sign self.d (record { p = pos (unsigned_abs (x.p -ℤ y.p)); q = neg_ℤ (pos (unsigned_abs (x.q -ℤ y.q))) }) }
     {
-        CompleteQuotient::first(self).compare_fraction(x.p().abs_diff(y.p()), x.q().abs_diff(y.q()))
+        let p = x.p().abs_diff(y.p());
+        let q = x.q().abs_diff(y.q());
+        if p < SMALL && q < SMALL {
+            self.compare_squares(p, q)
+        } else {
+            self.compare_quotients(p, q)
+        }
+    }
+
+    // How p compares with q·√d, by complete quotients.
+    fn compare_quotients(self, p: u128, q: u128) -> Ordering
+        requires { 0 < p }
+        ensures { result ≡ sign self.d (record { p = pos p; q = neg_ℤ (pos q) }) }
+    {
+        CompleteQuotient::first(self).compare_fraction(p, q)
+    }
+
+    // How p compares with q·√d, by their squares.
+    fn compare_squares(self, p: u128, q: u128) -> Ordering
+        requires positive { 0 < p }
+        requires small_p { p < 2 ^ 58 }
+        requires small_q { q < 2 ^ 58 }
+        ensures { result ≡ sign self.d (record { p = pos p; q = neg_ℤ (pos q) }) }
+    {
+        (p * p).cmp(&(u128::from(self.d) * (q * q)))
     }
 }

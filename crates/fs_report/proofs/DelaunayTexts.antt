@@ -6,9 +6,10 @@ use Rattle.std.specs.Prelude.{codes}
 use Rattle.std.proofs.lemmas.List.FromFn.{map-range_with_len_more}
 use Rattle.fs_fraction.specs.Fraction.{Fraction, reduced}
 use Rattle.fs_fraction.specs.Number.{spelling}
+use Rattle.fs_plane.specs.declared.corners.Corner.{Corner}
 use Rattle.fs_plane.specs.Vector.{PlaneVector}
 use Rattle.std.proofs.lemmas.List.{take_more, flat_map_more, map-id, length-take-le}
-use Rattle.fs_report.specs.Text.{line_of}
+use Rattle.fs_report.specs.Text.{line_of, corner_text}
 use Rattle.fs_report.specs.DelaunayText.{cell_line, cell_lines, vector_text}
 
 -- the text with that of the next item added
@@ -83,3 +84,14 @@ face_written f old text vectors twins vectors' twins' v t whole =
     whole
     ∙ (ap (λ (line : List ℕ). old ++ line) (simp append_assoc refl)
     ∙ (λ i. old ++ line_of (codes "face " ++ decimal f ++ codes " " ++ v i ++ codes " twins " ++ t i)))
+
+-- ---- entries of the saddle list
+
+-- the text with the line of an entry added
+pub entry_written : (start start' : Corner) (old text v v' : List ℕ) → start ≡ start' → v ≡ v'
+    → text ≡ old ++ (codes "saddle " ++ (decimal start.polygon ++ (codes "." ++ (decimal start.side ++ (codes " " ++ (v ++ 10 ∷ []))))))
+    → text ≡ old ++ line_of (codes "saddle " ++ corner_text start' ++ codes " " ++ v')
+entry_written start start' old text v v' same vectors whole =
+    whole
+    ∙ (ap (λ (line : List ℕ). old ++ line) (simp append_assoc refl)
+    ∙ (λ i. old ++ line_of (codes "saddle " ++ corner_text (same i) ++ codes " " ++ vectors i)))

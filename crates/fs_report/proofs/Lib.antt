@@ -4,6 +4,7 @@ pub mod SortedOrders
 pub mod ListTexts
 pub mod DelaunayTexts
 pub mod DelaunayUnique
+pub mod SaddlesUnique
 pub mod UnscaledArea
 pub mod StratumText
 pub mod AnswersUnique

@@ -3,9 +3,10 @@ use Rattle.std.specs.Prelude.{◌≡◌, ℕ, Bool, false, List, length, sum_by}
 use Rattle.fs_gluing.specs.Polygons.{HasSide}
 use Rattle.fs_gluing.specs.Surface.{GluedPolygons}
 use Rattle.fs_job.specs.declared.job.Command.{Command}
-use Rattle.fs_job.specs.declared.job.Command.TheVariants.{Check, Stratum, Segment, Delaunay, Cells}
+use Rattle.fs_job.specs.declared.job.Command.TheVariants.{Check, Stratum, Segment, Delaunay, Cells, Saddles}
 use Rattle.fs_report.specs.Text.{check_line, AnswersStratum, AnswersSegment}
 use Rattle.fs_report.specs.DelaunayText.{AnswersDelaunay, AnswersCells}
+use Rattle.fs_report.specs.SaddlesText.{AnswersSaddles}
 
 -- the answer to a command about a surface, within a budget: this text, and whether it is in place of the whole answer
 abbrev pub Answers : GluedPolygons → ℕ → Command → List ℕ → Bool → Type 0
@@ -14,6 +15,7 @@ Answers s budget Stratum text partial = AnswersStratum s text partial
 Answers s budget (Segment line start v) text partial = AnswersSegment s budget start v text partial
 Answers s budget Delaunay text partial = AnswersDelaunay s budget text partial
 Answers s budget Cells text partial = AnswersCells s budget text partial
+Answers s budget (Saddles limit) text partial = AnswersSaddles s budget limit text partial
 
 -- the surface has the corner that a command names
 abbrev pub HasCorner : GluedPolygons → Command → Type 0
@@ -22,3 +24,4 @@ HasCorner s Stratum = Unit {0}
 HasCorner s (Segment line start v) = HasSide s.polygons start
 HasCorner s Delaunay = Unit {0}
 HasCorner s Cells = Unit {0}
+HasCorner s (Saddles limit) = Unit {0}

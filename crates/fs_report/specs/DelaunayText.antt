@@ -10,20 +10,21 @@ use Rattle.fs_plane.specs.declared.sites.Stop.TheVariants.{Undecided, Overflow, 
 use Rattle.fs_plane.specs.Vector.{PlaneVector}
 use Rattle.fs_gluing.specs.Surface.{GluedPolygons}
 use Rattle.fs_gluing.specs.Triangulation.{Triangulation, IsCutFrom, edge_vector, edge_twin}
-use Rattle.fs_delaunay.specs.Runs.{IsFirstTriangulation, IsDelaunayRun}
+use Rattle.fs_mesh.specs.Meshes.{MeshValue}
+use Rattle.fs_delaunay.specs.Runs.{IsFirstMesh, IsDelaunayRun}
 use Rattle.fs_delaunay.specs.CheckedRuns.{EndsRun}
 use Rattle.fs_delaunay.specs.Cells.{AreCells}
 use Rattle.fs_report.specs.Text.{line_of, overflow_line}
 
 -- ---- the run
 
--- flips of these edges, no more than the budget, lead from the first cut of the surface to this Delaunay triangulation, to which the surface is cut and pasted
-pub record IsDelaunayOf (s : GluedPolygons) (budget : ℕ) (edges : List ℕ) (t : Triangulation) : Type 0 where
-  pub start : Triangulation
-  pub first : IsFirstTriangulation s start
-  pub ends : EndsRun s.d start budget (Ok (record { edges = edges; triangles = t }))
-  pub run : IsDelaunayRun s.d start edges t
-  pub cut : ∥ IsCutFrom s t ∥₁
+-- flips of these edges, no more than the budget, lead from the mesh of the first cut of the surface to this one, whose triangulation is a Delaunay one, to which the surface is cut and pasted
+pub record IsDelaunayOf (s : GluedPolygons) (budget : ℕ) (edges : List ℕ) (m : MeshValue) : Type 0 where
+  pub start : MeshValue
+  pub first : IsFirstMesh s start
+  pub ends : EndsRun start budget (Ok (record { edges = edges; mesh = m }))
+  pub run : IsDelaunayRun s.d start.triangles edges m.triangles
+  pub cut : ∥ IsCutFrom s m.triangles ∥₁
 
 -- the budget of flips is spent before the triangulation is a Delaunay one
 abbrev pub undecided_line : List ℕ → ℕ → List ℕ
@@ -38,10 +39,10 @@ IsStopText NoMemory words text partial = ⊥
 -- the answer, after these words, where the run leads to no Delaunay triangulation
 pub data AnswersStopped (s : GluedPolygons) (budget : ℕ) (words text : List ℕ) (partial : Bool) : Type 0 where
   -- a formula of the run overflows
-  overflowed : (start : Triangulation) (site : Site) → IsFirstTriangulation s start → EndsRun s.d start budget (Err (Overflow site)) → text ≡ overflow_line words site → partial ≡ true
+  overflowed : (start : MeshValue) (site : Site) → IsFirstMesh s start → EndsRun start budget (Err (Overflow site)) → text ≡ overflow_line words site → partial ≡ true
       → AnswersStopped s budget words text partial
   -- an edge is illegal after as many flips as the budget allows
-  undecided : (start : Triangulation) → IsFirstTriangulation s start → EndsRun s.d start budget (Err (Undecided budget)) → text ≡ undecided_line words budget → partial ≡ true
+  undecided : (start : MeshValue) → IsFirstMesh s start → EndsRun start budget (Err (Undecided budget)) → text ≡ undecided_line words budget → partial ≡ true
       → AnswersStopped s budget words text partial
 
 -- ---- delaunay
@@ -85,7 +86,7 @@ delaunay_text den edges t = delaunay_line edges ++ flip_lines edges ++ face_line
 -- the answer to `delaunay` about a surface, within a budget of flips
 pub data AnswersDelaunay (s : GluedPolygons) (budget : ℕ) (text : List ℕ) (partial : Bool) : Type 0 where
   -- the run leads to this Delaunay triangulation
-  whole : (edges : List ℕ) (t : Triangulation) → IsDelaunayOf s budget edges t → text ≡ delaunay_text (unsigned_abs s.den) edges t → partial ≡ false → AnswersDelaunay s budget text partial
+  whole : (edges : List ℕ) (m : MeshValue) → IsDelaunayOf s budget edges m → text ≡ delaunay_text (unsigned_abs s.den) edges m.triangles → partial ≡ false → AnswersDelaunay s budget text partial
   -- it leads to none
   stopped : AnswersStopped s budget (codes "delaunay") text partial → AnswersDelaunay s budget text partial
 
@@ -115,7 +116,7 @@ cells_text edges cells = cells_line (length cells) (length edges) ++ cell_lines 
 -- the answer to `cells` about a surface, within a budget of flips
 pub data AnswersCells (s : GluedPolygons) (budget : ℕ) (text : List ℕ) (partial : Bool) : Type 0 where
   -- the run leads to a Delaunay triangulation, whose cells are these
-  celled : (edges : List ℕ) (t : Triangulation) (cells : List (List ℕ)) → IsDelaunayOf s budget edges t → AreCells s.d t cells → text ≡ cells_text edges cells → partial ≡ false
+  celled : (edges : List ℕ) (m : MeshValue) (cells : List (List ℕ)) → IsDelaunayOf s budget edges m → AreCells s.d m.triangles cells → text ≡ cells_text edges cells → partial ≡ false
       → AnswersCells s budget text partial
   -- it leads to none
   not_celled : AnswersStopped s budget (codes "cells") text partial → AnswersCells s budget text partial

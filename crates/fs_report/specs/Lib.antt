@@ -2,4 +2,5 @@ pub mod Orders
 pub mod Area
 pub mod Text
 pub mod DelaunayText
+pub mod SaddlesText
 pub mod Answers

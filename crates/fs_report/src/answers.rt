@@ -7,6 +7,7 @@ ghost use Rattle.fs_report.specs.Text.{check_line};
 
 use crate::cells::answer_cells;
 use crate::delaunay::answer_delaunay;
+use crate::saddles::answer_saddles;
 use crate::segment::answer_segment;
 use crate::stratum::answer_stratum;
 use fs_fraction::NoMemory;
@@ -52,8 +53,8 @@ fn check_line(alloc: Global, surface: &Surface) -> Result<String, NoMemory>
 }
 
 /// The answer to a command about a surface without straight corners, within a budget of 1 to 1,000,000 steps: `segment`
-/// crosses at most so many sides, `delaunay` and `cells` flip at most so many edges. The corner of a `segment` exists,
-/// and its vector isn't 0,0.
+/// crosses at most so many sides, `delaunay`, `cells` and `saddles` flip at most so many edges, and then `saddles` visits at
+/// most so many live words. The corner of a `segment` exists, and its vector isn't 0,0.
 pub fn find_answer(
     alloc: Global,
     surface: &Surface,
@@ -76,5 +77,6 @@ pub fn find_answer(
         Command::Segment { start, v, .. } => answer_segment(alloc, surface, *start, v, budget),
         Command::Delaunay => answer_delaunay(alloc, surface, budget),
         Command::Cells => answer_cells(alloc, surface, budget),
+        Command::Saddles { limit } => answer_saddles(alloc, surface, *limit, budget),
     }
 }

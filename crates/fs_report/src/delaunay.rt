@@ -1,17 +1,18 @@
 // The answer to `delaunay`.
 
-ghost use Rattle.std.specs.Prelude.{◌≡◌, ◌+◌, ◌*◌, ◌/◌, ◌<◌, ◌≤◌, ◌<ℤ◌, ◌++◌, false, IfOk, OnOk, pos, length, string_bytes, unsigned_abs};
+ghost use Rattle.std.specs.Prelude.{◌≡◌, ◌+◌, ◌*◌, ◌/◌, ◌<◌, ◌≤◌, ◌++◌, false, IfOk, OnOk, length, string_bytes, unsigned_abs};
 ghost use Rattle.fs_gluing.specs.Triangulation.{edge_vector};
 ghost use Rattle.fs_mesh.specs.Meshes.{IsMesh};
 ghost use Rattle.fs_report.specs.DelaunayText.{AnswersDelaunay, IsStopText, undecided_line, delaunay_line, delaunay_text, flip_line, flip_lines, vector_text, face_vectors, face_twins, face_line, face_lines};
 
 use crate::answers::Answer;
 use crate::lines::overflow_line;
+use crate::vectors::unscaled_text;
 use fs_delaunay::{Delaunay, find_delaunay, start};
-use fs_fraction::{Frac, NoMemory, print_number};
+use fs_fraction::NoMemory;
 use fs_gluing::Surface;
 use fs_mesh::Mesh;
-use fs_plane::{Stop, V2};
+use fs_plane::Stop;
 use std::alloc::{AllocError, Global};
 
 // The answer to `delaunay`, within a budget of flips.
@@ -149,15 +150,4 @@ fn vector_text(alloc: Global, mesh: &Mesh<'_>, h: u32) -> Result<String, NoMemor
     ensures { IfOk result (λ text. string_bytes text ≡ vector_text (unsigned_abs mesh.now.surface.den) (edge_vector mesh.now.triangles h)) }
 {
     unscaled_text(alloc, mesh.vector(h), mesh.surface().den())
-}
-
-// x,y of a vector over a denominator.
-fn unscaled_text(alloc: Global, v: V2, den: i128) -> Result<String, NoMemory>
-    requires { pos 0 <ℤ den }
-    ensures { IfOk result (λ text. string_bytes text ≡ vector_text (unsigned_abs den) v) }
-{
-    let x = print_number(alloc, Frac::new(v.x, den))?;
-    let y = print_number(alloc, Frac::new(v.y, den))?;
-    let text = format!(in alloc; "{x},{y}")?;
-    Ok(text)
 }

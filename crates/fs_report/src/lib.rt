@@ -6,8 +6,10 @@ mod areas;
 mod cells;
 mod delaunay;
 mod lines;
+mod saddles;
 mod segment;
 mod stratum;
+mod vectors;
 
 pub use answers::{Answer, find_answer};
 pub use lines::{build_line, fault_line};

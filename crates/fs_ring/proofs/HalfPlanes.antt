@@ -135,7 +135,7 @@ module _ {A : Type 0} {R : Operations A} {IsPositive : A → Type 0} (L : IsOrde
 
   -- ---- the order of directions
 
-  unit-ne-zero : unit_vector R ≢ zero_vector R
+  pub unit-ne-zero : unit_vector R ≢ zero_vector R
   unit-ne-zero e = signs.positive-ne-zero L L.one_positive (ap (λ v. v.x) e)
 
   pub before_irrefl : (a : Vector A) → ¬ Before a a

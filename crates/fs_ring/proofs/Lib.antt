@@ -14,4 +14,8 @@ pub mod AxisSigns
 pub mod Chords
 pub mod Hinges
 pub mod Circles
+pub mod Discs
+pub mod VectorOrder
+pub mod VectorComparison
+pub mod LedOrders
 pub mod Integers

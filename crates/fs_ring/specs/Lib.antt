@@ -4,4 +4,5 @@ pub mod OrderedRing
 pub mod Vector
 pub mod Direction
 pub mod Circle
+pub mod Discs
 pub mod Integers

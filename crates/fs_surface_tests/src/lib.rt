@@ -8,6 +8,10 @@ mod common;
 #[cfg(test)]
 mod corners;
 #[cfg(test)]
+mod listed;
+#[cfg(test)]
+mod segments;
+#[cfg(test)]
 mod surfaces;
 #[cfg(test)]
 mod vectors;

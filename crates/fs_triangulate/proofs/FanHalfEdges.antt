@@ -18,7 +18,7 @@ use Rattle.fs_gluing.specs.declared.triangulations.Triangles.{Triangles}
 use Rattle.fs_gluing.specs.Polygons.{HasSide}
 use Rattle.fs_gluing.specs.Surface.{GluedPolygons, IsTranslationSurface}
 use Rattle.fs_gluing.specs.SurfaceSides.{vector_of, partner}
-use Rattle.fs_gluing.specs.FirstCut.{CornerTriangle, all_ways, ways_of, fans_from, way_vector, way_start, glued_way, side_way, position_in}
+use Rattle.fs_gluing.specs.FirstCut.{CornerTriangle, all_ways, ways_of, fans_from, way_vector, way_start, glued_way, side_way}
 use Rattle.fs_gluing.specs.NextCorner.{side_count, corner_after}
 use Rattle.fs_gluing.specs.Triangulation.{Triangulation, triangulation_of, edge_vector, edge_twin}
 use Rattle.fs_gluing.proofs.SurfaceCalls.NextCorner.{in_polygon, count_is}
@@ -64,7 +64,7 @@ module _ (s : GluedPolygons) (triangles : Triangles) (cut : HasTriangles s (fans
   pub twins_length : length T.twins ≡ 3 * all_faces polygons
   twins_length = ap length cut.twins ∙ length-map ways (λ w. half_edge_of polygons (glued_way polygons w)) ∙ length-all_ways polygons
 
-  -- what stands at a half-edge along a way
+  -- what a half-edge along a way has
   pub record RunsAlong (h : ℕ) (w : Way) : Type 0 where
     pub inside : h < length T.vectors
     pub vector : edge_vector T h ≡ way_vector s w

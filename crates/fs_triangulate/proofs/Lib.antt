@@ -15,3 +15,4 @@ pub mod FanHalfEdges
 pub mod FanTriangulation
 pub mod FanEars
 pub mod FanCuts
+pub mod FanHomes

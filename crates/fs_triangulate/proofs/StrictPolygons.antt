@@ -43,7 +43,8 @@ module _ (polygons : List (List Side)) (i : ℕ) where
   pub corner_after-last : (j : ℕ) → j + 1 ≡ side_count polygons i → corner_after polygons (corner i j) ≡ corner i 0
   corner_after-last j e = ap (corner i) (grind (arith, nat_tests))
 
-  nth_on : (k j : ℕ) → j + k < side_count polygons i → nth_side (polygon_sides polygons) (corner i j) k ≡ corner i (j + k)
+  -- from a corner on, as long as corner 0 isn't passed
+  pub nth_on : (k j : ℕ) → j + k < side_count polygons i → nth_side (polygon_sides polygons) (corner i j) k ≡ corner i (j + k)
   nth_on zero j l = ap (corner i) (omega arith)
   nth_on (suc k) j l =
       ap (iterate (corner_after polygons) k) (corner_after-next j (omega arith)) ∙ nth_on k (j + 1) (omega arith) ∙ ap (corner i) (omega arith)
@@ -110,7 +111,8 @@ module _ (s : GluedPolygons) (surface : IsTranslationSurface s) where
         subst (λ e. IsStrictlyConvex s.d (vector_of polygons e) (vector_of polygons (corner_after polygons c))) (before-after_corner polygons c h)
         (convex_at (corner_after polygons c) (has_after polygons c h))
 
-    left_of_side : (c : Corner) → HasSide polygons c → (k : ℕ) → 2 ≤ k → k < side_count polygons c.polygon
+    -- a corner of its polygon that is no end of a side is to the left of the side
+    pub left_of_side : (c : Corner) → HasSide polygons c → (k : ℕ) → 2 ≤ k → k < side_count polygons c.polygon
         → IsPositive s.d (cross (quadratic s.d) (vector_of polygons c) (sub_vector (quadratic s.d) (position_of polygons (nth_side G c k)) (position_of polygons c)))
     left_of_side c h k l m =
         let laws = path_laws s surface in

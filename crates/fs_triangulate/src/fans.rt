@@ -1,6 +1,7 @@
 // Polygons cut into triangles along their diagonals from corner 0.
 
 ghost use Rattle.std.specs.Prelude.{◌≡◌, ◌+◌, ◌<◌, ◌≤◌, ◌∷◌, [], false, length, IfOk, OnOk};
+ghost use Rattle.fs_gluing.specs.Homes.{HasHomes};
 ghost use Rattle.fs_gluing.specs.Limits.{most_sides};
 ghost use Rattle.fs_gluing.specs.NextCorner.{side_count};
 ghost use Rattle.fs_gluing.specs.Surface.{IsSurface};
@@ -26,6 +27,8 @@ pub fn fan_cut(alloc: Global, surface: &Surface) -> Result<Triangles, NoMemory>
     ensures triangulation { IfOk result (λ triangles. IsTriangulation surface.now.d (triangulation_of triangles)) }
     // A list of cuts leads from the surface to its faces.
     ensures cut { IfOk result (λ triangles. IsCutFrom surface.now (triangulation_of triangles)) }
+    // The vector of each half-edge is in the sector of its home.
+    ensures homes { IfOk result (λ triangles. HasHomes surface.now (triangulation_of triangles) triangles.homes) }
 {
     // A look at the field makes the invariant of the surface known here.
     let _ = surface.field();

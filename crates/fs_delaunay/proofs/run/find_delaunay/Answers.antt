@@ -12,18 +12,18 @@ loop-more-init c =
 
 pub returns-in_err-more-clause-run : goal.returns-in_err-more-clause-run
 returns-in_err-more-clause-run c =
-    stop_returned c.args.mesh c.args.budget c.loop-more.mesh c.loop-more.suspects c.loop-more.edges c.loop-more.more c.loop-more.invariant c.flip_next.new.mesh.triangles c.flip_next.new.edges
+    stop_returned c.args.mesh c.args.budget c.loop-more.mesh c.loop-more.suspects c.loop-more.edges c.loop-more.more c.loop-more.invariant c.flip_next.new.mesh c.flip_next.new.edges
     c.in_err-more.field-0.0 c.in_err-more.ensures.step c.from_residual-in_err-more.result c.from_residual-in_err-more.ensures.1
 
 pub returns-in_err-more-clause-only : goal.returns-in_err-more-clause-only
 returns-in_err-more-clause-only c =
     returned_unique c.args.mesh c.args.budget c.half_edges.ensures.mesh c.from_residual-in_err-more.result
-    (stop_returned c.args.mesh c.args.budget c.loop-more.mesh c.loop-more.suspects c.loop-more.edges c.loop-more.more c.loop-more.invariant c.flip_next.new.mesh.triangles c.flip_next.new.edges
+    (stop_returned c.args.mesh c.args.budget c.loop-more.mesh c.loop-more.suspects c.loop-more.edges c.loop-more.more c.loop-more.invariant c.flip_next.new.mesh c.flip_next.new.edges
     c.in_err-more.field-0.0 c.in_err-more.ensures.step c.from_residual-in_err-more.result c.from_residual-in_err-more.ensures.1)
 
 pub loop-more-smaller : goal.loop-more-smaller
 loop-more-smaller c =
-    step_is_smaller c.args.mesh c.args.budget c.loop-more.mesh c.loop-more.suspects c.loop-more.edges c.loop-more.more c.loop-more.invariant c.loop-more-test.true c.flip_next.new.mesh.triangles
+    step_is_smaller c.args.mesh c.args.budget c.loop-more.mesh c.loop-more.suspects c.loop-more.edges c.loop-more.more c.loop-more.invariant c.loop-more-test.true c.flip_next.new.mesh
     c.flip_next.new.edges c.in_ok-more.more c.in_ok-more.ensures.step
 
 pub loop-more-preserved : goal.loop-more-preserved

@@ -9,6 +9,6 @@ pub returns-clause-filled : goal.returns-clause-filled
 returns-clause-filled c =
     let at : c.len-h.result ≡ length c.args.half_edges.now.items = omega arith in
     let next = c.next_in_face.ensures ∙ ap next_in_face at in
-    subst (IsFilled c.args.twins.now)
-    (sym (c.in_ok-push.ensures.items ∙ (λ i. c.args.half_edges.now.items ++ record { vector = c.args.vector; twin = get_or c.args.twins.now (at i) 0; next = next i } ∷ [])))
-    (filled_more c.args.twins.now c.args.half_edges.now.items c.args.vector c.requires.filled c.requires.room)
+    subst (IsFilled c.args.twins.now c.args.homes.now)
+    (sym (c.in_ok-push.ensures.items ∙ (λ i. c.args.half_edges.now.items ++ record { vector = c.args.vector; twin = get_or c.args.twins.now (at i) 0; next = next i; home = get_or c.args.homes.now (at i) (record { polygon = 0; side = 0 }) } ∷ [])))
+    (filled_more c.args.twins.now c.args.homes.now c.args.half_edges.now.items c.args.vector (record { polygon = 0; side = 0 }) c.requires.filled c.requires.room c.requires.as_many)

@@ -1,7 +1,8 @@
--- The triangles of all fans are the first cut; they are a triangulation, and a list of cuts leads to them.
+-- The triangles of all fans are the first cut; they are a triangulation, a list of cuts leads to them, and their half-edges have homes.
 use Rattle.fs_triangulate.proofs.FirstCutLaws.{first_cut_of_fans}
 use Rattle.fs_triangulate.proofs.FanTriangulation.{fan_is_triangulation}
 use Rattle.fs_triangulate.proofs.FanCuts.{fan_is_cut}
+use Rattle.fs_triangulate.proofs.FanHomes.{fan_has_homes}
 use Rattle.fs_triangulate.proofs.fans.fan_cut.Goals as goal
 
 pub returns : goal.returns
@@ -14,4 +15,5 @@ returns c =
       first_cut = first_cut_of_fans s triangles surface fans;
       triangulation = fan_is_triangulation s surface.surface triangles fans c.requires.strict surface.sides;
       cut = fan_is_cut s surface.surface triangles fans c.requires.strict;
+      homes = fan_has_homes s surface.surface c.requires.strict triangles fans;
     }

@@ -1,0 +1,10 @@
+pub mod OrderedLists
+pub mod WordsBefore
+pub mod Extensions
+pub mod VisitedWords
+pub mod SeenRays
+pub mod VisitMeanings
+pub mod SearchStates
+pub mod SearchEnds
+pub mod FoundSegments
+pub mod EndsUnique

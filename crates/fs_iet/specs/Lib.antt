@@ -1,0 +1,2 @@
+pub mod ExchangeSites
+pub mod Images

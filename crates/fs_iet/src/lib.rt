@@ -1,0 +1,2 @@
+// The interval exchange of a flow over a surface.
+#![tactic(auto)]

@@ -1,0 +1,4 @@
+pub mod Words
+pub mod LiveWords
+pub mod Sectors
+pub mod WordOrder
