@@ -130,3 +130,11 @@ module _ (s : GluedPolygons) (v : PlaneVector) where
 
   abbrev pub IsRealIncoming : Corner → Type 0
   IsRealIncoming e = IsIncoming (side_before s.polygons e)
+
+  -- the crossing map is a function on positions, one-to-one and onto
+  pub record IsMapOfPositions : Type 0 where
+    pub within : (y z : Quadratic) (h : PlaneVector) (f : Corner) → Crosses y z h f → IsPosition y × IsPosition z
+    pub some : (y : Quadratic) → IsPosition y → (z : Quadratic) × (h : PlaneVector) × (f : Corner) × Crosses y z h f
+    pub one : (y z w : Quadratic) (h g : PlaneVector) (f e : Corner) → Crosses y z h f → Crosses y w g e → (z ≡ w) × (h ≡ g)
+    pub one_to_one : (y x z : Quadratic) (h g : PlaneVector) (f e : Corner) → Crosses y z h f → Crosses x z g e → y ≡ x
+    pub onto : (z : Quadratic) → IsPosition z → (y : Quadratic) × (h : PlaneVector) × (f : Corner) × Crosses y z h f

@@ -1,9 +1,10 @@
 -- Interval exchanges with vectors, and the exchange of a surface and a direction.
-use Rattle.std.specs.Prelude.{◌≡◌, ◌↔◌, ℕ, ◌<◌, Bool, true, List, [], ◌∷◌, length, map, slice_index_or, IsPermutation, Some}
+use Rattle.std.specs.Prelude.{◌≡◌, ◌↔◌, ℕ, ◌<◌, ◌==◌, if◌then◌else◌, Bool, true, List, [], ◌∷◌, length, map, slice_index_or, IsPermutation, Some}
 use Rattle.std.specs.List.{slice_get, flat_map, AllByRecursion}
 use Rattle.fs_lists.specs.Members.{IsIn, IsDistinct}
+use Rattle.fs_ring.specs.OrderedRing.{IsAtMost}
 use Rattle.fs_quadratic.specs.Ring as ring
-use Rattle.fs_quadratic.specs.Ring.{Quadratic, IsPositive, add, total}
+use Rattle.fs_quadratic.specs.Ring.{Quadratic, quadratic, IsPositive, IsLess, add, sub, total}
 use Rattle.fs_plane.specs.declared.corners.Corner.{Corner}
 use Rattle.fs_plane.specs.Vector.{PlaneVector, vector_neg}
 use Rattle.fs_gluing.specs.FirstCut.{position_in}
@@ -46,6 +47,33 @@ pub record IsLawful (d : ℕ) (c : Component) : Type 0 where
   pub rows : IsPermutation (names_of c.top) c.bottom
   pub lengths : AllByRecursion (λ letter. IsPositive d letter.length) c.top
   pub sum : total (map (λ letter. letter.length) c.top) ≡ c.total
+
+-- ---- left ends
+
+-- the length of the letter of a name, or 0 where there is none
+abbrev pub length_of : List Letter → ℕ → Quadratic
+length_of [] name = ring.zero
+length_of (letter ∷ letters) name = if letter.name == name then letter.length else length_of letters name
+
+-- the sum of the lengths of the letters before a name in a row
+abbrev pub length_before : List Letter → ℕ → List ℕ → Quadratic
+length_before letters name [] = ring.zero
+length_before letters name (other ∷ row) = if other == name then ring.zero else add (length_of letters other) (length_before letters name row)
+
+-- where a letter begins in the top row
+abbrev pub top_left : Component → ℕ → Quadratic
+top_left c name = add c.base (length_before c.top name (names_of c.top))
+
+-- where it begins in the bottom row
+abbrev pub bottom_left : Component → ℕ → Quadratic
+bottom_left c name = add c.base (length_before c.top name c.bottom)
+
+-- the exchange takes y to z by a letter: the letter holds y in the top row, and z is as far right of its beginning in the bottom row as y is in the top row
+pub record Takes (d : ℕ) (c : Component) (letter : Letter) (y z : Quadratic) : Type 0 where
+  pub there : IsIn letter c.top
+  pub from_left : IsAtMost (quadratic d) (IsPositive d) (top_left c letter.name) y
+  pub before_right : IsLess d y (add (top_left c letter.name) letter.length)
+  pub beyond : z ≡ add (sub y (top_left c letter.name)) (bottom_left c letter.name)
 
 -- ---- the exchange of a direction
 
