@@ -4,7 +4,7 @@ use Rattle.std.specs.Ordering.{is_lt}
 use Rattle.fs_quadratic.specs.Checked.{◌>>=◌, checked_sum, checked_difference}
 use Rattle.fs_quadratic.specs.Ring.{Quadratic, zero, compare}
 use Rattle.fs_quadratic.specs.declared.steps.Place.{Place}
-use Rattle.fs_gluing.specs.Exchanges.{Letter, Component}
+use Rattle.fs_gluing.specs.Exchanges.{Letter, Component, length_of}
 
 -- an offset in a letter, by the letter's name
 pub record Offset : Type 0 where
@@ -17,11 +17,6 @@ letter_at d n y [] = Ok (record { name = n; offset = y })
 letter_at d n y (letter ∷ letters) =
     if is_lt (compare d y letter.length) then Ok (record { name = letter.name; offset = y })
     else (checked_difference (1 + n) y letter.length >>= (λ rest. letter_at d (n + 1) rest letters))
-
--- the length of the letter of a name, or 0 where there is none
-abbrev pub length_of : List Letter → ℕ → Quadratic
-length_of [] name = zero
-length_of (letter ∷ letters) name = if letter.name == name then letter.length else length_of letters name
 
 -- the position in the bottom row: the length of each letter before this one there, of which the first is at place n, is added, by place 513 + n
 abbrev pub bottom_position : List Letter → ℕ → ℕ → Quadratic → List ℕ → Result Quadratic Place

@@ -1,2 +1,4 @@
 pub mod ExchangeSites
+pub mod ExchangeValue
 pub mod Images
+pub mod Rows
