@@ -1,3 +1,5 @@
 pub mod Intervals
 pub mod Rearrangements
 pub mod LetterRows
+pub mod ShiftedIntervals
+pub mod TakenPositions
