@@ -6,3 +6,5 @@ pub mod TakenPositions
 pub mod GreatestMeasures
 pub mod ComputedMeasures
 pub mod PolygonSides
+pub mod SideMeasures
+pub mod PolygonMeasures

@@ -131,11 +131,11 @@ module _ (polygons : List (List Side)) (i : ℕ) where
 -- ---- sums and positions of a list by numbers
 
 -- a sum over a list is one over the numbers of its items
-pub total_by_numbers : {X : Type 0} {d : ℕ} (f : X → Quadratic) (item : ℕ → X) (b : ℕ) (xs : List X) → ((k m : ℕ) (x : X) → b + k ≡ m → slice_get xs k ≡ Some x → item m ≡ x)
+pub total_by_numbers : {X : Type 0} (d : ℕ) (f : X → Quadratic) (item : ℕ → X) (b : ℕ) (xs : List X) → ((k m : ℕ) (x : X) → b + k ≡ m → slice_get xs k ≡ Some x → item m ≡ x)
     → total (map f xs) ≡ sum_from (quadratic d) (λ j. f (item j)) b (length xs)
-total_by_numbers f item b [] at = refl
-total_by_numbers {d = d} f item b (x ∷ xs) at =
-    λ i. add (f (sym (at 0 b x (add-zero b) refl) i)) (total_by_numbers {d = d} f item (suc b) xs (λ k m y e g. at (suc k) m y (omega arith) g) i)
+total_by_numbers d f item b [] at = refl
+total_by_numbers d f item b (x ∷ xs) at =
+    λ i. add (f (sym (at 0 b x (add-zero b) refl) i)) (total_by_numbers d f item (suc b) xs (λ k m y e g. at (suc k) m y (omega arith) g) i)
 
 -- the positions of corners are the sums of the first sides
 pub in_positions : (start : PlaneVector) (sides : List PlaneVector) (k : ℕ) → k < length sides → IsIn (vector_total_from start (take k sides)) (positions_from start sides)
