@@ -8,3 +8,6 @@ pub mod ComputedMeasures
 pub mod PolygonSides
 pub mod SideMeasures
 pub mod PolygonMeasures
+pub mod Chains
+pub mod PolygonChains
+pub mod SideRows
