@@ -11,3 +11,5 @@ pub mod PolygonMeasures
 pub mod Chains
 pub mod PolygonChains
 pub mod SideRows
+pub mod SidesOfRows
+pub mod CrossingMaps
