@@ -6,6 +6,8 @@ use Rattle.fs_lists.specs.Members.{IsIn}
 use Rattle.fs_ring.specs.Operations.{Operations}
 use Rattle.fs_ring.specs.OrderedRing.{IsOrderedRing, IsLess, IsAtMost}
 use Rattle.fs_ring.proofs.Order as order
+use Rattle.fs_ring.proofs.RingLaws as ring_laws
+use Rattle.fs_quadratic.specs.Ring.{Quadratic, quadratic, IsPositive, add, total, zero as nil}
 use Rattle.fs_convex.proofs.Rows.{Tiles, tiles_bounds}
 use Rattle.fs_gluing.specs.Exchanges.{IsChainOf}
 
@@ -36,7 +38,15 @@ module _ {A : Type 0} (R : Operations A) where
         tiles_lefts (R.add y (len a)) u z xs ws t.1 (subst (λ l. Tiles R left2 len2 (R.add y l) ws u) (sym (same 0 a b refl refl)) v.1)
         (λ n x w e f. same (suc n) x w e f) n x w e f
 
-module _ {A X : Type 0} {R : Operations A} {IsPositive : A → Type 0} (L : IsOrderedRing R IsPositive) (left len : X → A) (next : X → X) where
+-- the last interval of numbers ends where their lengths sum to from the beginning
+pub tiles_total : {d : ℕ} (L : IsOrderedRing (quadratic d) (IsPositive d)) {X : Type 0} (left len : X → Quadratic) {z : Quadratic} (xs : List X) → Tiles (quadratic d) left len nil xs z → z ≡ total (map len xs)
+tiles_total {d} L {X} left len {z} xs t = go nil z xs t ∙ ring_laws.zero_add L.ring (total (map len xs))
+  where
+    go : (y z : Quadratic) (xs : List X) → Tiles (quadratic d) left len y xs z → z ≡ add y (total (map len xs))
+    go y z [] t = t ∙ sym (L.add_zero y)
+    go y z (x ∷ xs) t = go (add y (len x)) z xs t.1 ∙ L.add_assoc y (len x) (total (map len xs))
+
+module _ {A X : Type 0} {R : Operations A} {P : A → Type 0} (L : IsOrderedRing R P) (left len : X → A) (next : X → X) where
   -- items in turn, each next one beginning where the one before ends
   chain_ends : (x : X) (xs : List X) → IsChainOf next (x ∷ xs) → ((u : X) → IsIn u (x ∷ xs) → left (next u) ≡ R.add (left u) (len u))
       → (last : X) × IsIn last (x ∷ xs) × Tiles R left len (left x) (x ∷ xs) (R.add (left last) (len last))
@@ -47,13 +57,13 @@ module _ {A X : Type 0} {R : Operations A} {IsPositive : A → Type 0} (L : IsOr
 
   -- where all are between two ends, and both ends are met, they go from the one end to the other
   pub chain_tiles : (lo hi : A) (xs : List X) → IsChainOf next xs → ((u : X) → IsIn u xs → left (next u) ≡ R.add (left u) (len u))
-      → ((u : X) → IsIn u xs → IsPositive (len u)) → ((u : X) → IsIn u xs → IsAtMost R IsPositive lo (left u) × IsAtMost R IsPositive (R.add (left u) (len u)) hi)
+      → ((u : X) → IsIn u xs → P (len u)) → ((u : X) → IsIn u xs → IsAtMost R P lo (left u) × IsAtMost R P (R.add (left u) (len u)) hi)
       → (a b : X) → IsIn a xs → IsIn b xs → left a ≡ lo → R.add (left b) (len b) ≡ hi → Tiles R left len lo xs hi
   chain_tiles lo hi [] c step long within a b ha hb at_lo at_hi = absurd ha
   chain_tiles lo hi (x ∷ xs) c step long within a b ha hb at_lo at_hi =
       let ends = chain_ends x xs c step in
       let last = R.add (left ends.0) (len ends.0) in
       let bounds = (tiles_bounds L left len (left x) last (x ∷ xs) long ends.2).1 in
-      let first : left x ≡ lo = order.at_most_antisymm L (left x) lo (subst (IsAtMost R IsPositive (left x)) at_lo (bounds a ha).0) (within x (inl refl)).0 in
-      let end : last ≡ hi = order.at_most_antisymm L last hi (within ends.0 ends.1).1 (subst (λ y. IsAtMost R IsPositive y last) at_hi (bounds b hb).1) in
+      let first : left x ≡ lo = order.at_most_antisymm L (left x) lo (subst (IsAtMost R P (left x)) at_lo (bounds a ha).0) (within x (inl refl)).0 in
+      let end : last ≡ hi = order.at_most_antisymm L last hi (within ends.0 ends.1).1 (subst (λ y. IsAtMost R P y last) at_hi (bounds b hb).1) in
       subst (λ y. Tiles R left len y (x ∷ xs) hi) first (subst (Tiles R left len (left x) (x ∷ xs)) end ends.2)

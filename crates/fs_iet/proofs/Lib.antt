@@ -13,3 +13,6 @@ pub mod PolygonChains
 pub mod SideRows
 pub mod SidesOfRows
 pub mod CrossingMaps
+pub mod ListsInTurn
+pub mod ExchangeNames
+pub mod ExchangeRows
