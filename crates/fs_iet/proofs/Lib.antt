@@ -16,3 +16,7 @@ pub mod CrossingMaps
 pub mod ListsInTurn
 pub mod ExchangeNames
 pub mod ExchangeRows
+pub mod ExchangeCrossings
+pub mod ImagePositions
+pub mod RealSides
+pub mod Marks
