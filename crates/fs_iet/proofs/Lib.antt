@@ -20,3 +20,7 @@ pub mod ExchangeCrossings
 pub mod ImagePositions
 pub mod RealSides
 pub mod Marks
+pub mod Orbits
+pub mod FirstReturns
+pub mod PolygonPositions
+pub mod OrbitVectors
