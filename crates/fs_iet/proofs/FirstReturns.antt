@@ -1,5 +1,5 @@
 -- First returns of a flow to an interval: there is at most one, and those to a smaller interval are made of those to a larger one. A library for crates to come.
-use Rattle.std.proofs.Common.{◌≡◌, ◌≢◌, ◌⊎◌, ℕ, ◌+◌, ◌-◌, ◌<◌, ◌≤◌, refl, sym, subst, inl, inr, arith}
+use Rattle.std.proofs.Common.{◌≡◌, ◌≢◌, ◌⊎◌, ℕ, ◌+◌, ◌-◌, ◌<◌, subst, inl, inr, arith}
 use Rattle.std.proofs.lemmas.Bool.{cases_order}
 use Rattle.fs_ring.specs.OrderedRing.{IsAtMost}
 use Rattle.fs_ring.specs.Vector.{add_vector}

@@ -1,16 +1,14 @@
 -- The image of a position that is computed by a component's lengths is where the component takes the position. A library for crates to come.
-use Rattle.std.proofs.Common.{◌≡◌, ◌≢◌, ◌⊎◌, ℕ, ◌+◌, ◌==◌, if◌then◌else◌, eqb, Bool, true, false, Result, Ok, Err, IfOk, List, [], ◌∷◌, map, refl, sym, ap, ◌∙◌, subst, inl, inr}
+use Rattle.std.proofs.Common.{◌≡◌, ◌≢◌, ℕ, ◌+◌, if◌then◌else◌, Bool, true, false, Result, Ok, Err, IfOk, List, [], ◌∷◌, refl, sym, ap, ◌∙◌, subst, inl, inr}
 use Rattle.std.proofs.lemmas.Bool.Decides.{eqb_tells}
-use Rattle.std.specs.Ordering.{is_lt}
 use Rattle.fs_lists.specs.Members.{IsIn}
 use Rattle.fs_ring.specs.OrderedRing.{IsOrderedRing, IsAtMost}
-use Rattle.fs_ring.proofs.Order as order
 use Rattle.fs_ring.proofs.RingLaws as ring_laws
 use Rattle.fs_ring.proofs.Signs as signs
-use Rattle.fs_ring.proofs.Solver.{expressions as E, identity, derived, ◌⊕◌, ◌⊖◌, ◌≐◌, ◌from◌, numeral}
+use Rattle.fs_ring.proofs.Solver.{identity, derived, ◌⊕◌, ◌⊖◌, ◌≐◌, ◌from◌, numeral}
 use Rattle.fs_quadratic.specs.Checked.{step, ◌>>=◌, checked_sum, checked_difference}
 use Rattle.fs_quadratic.specs.Radicand.{IsNoSquare}
-use Rattle.fs_quadratic.specs.Ring.{Quadratic, quadratic, IsPositive, IsLess, add, sub, compare, zero as nil}
+use Rattle.fs_quadratic.specs.Ring.{Quadratic, quadratic, IsPositive, IsLess, add, sub, zero as nil}
 use Rattle.fs_quadratic.specs.Width.{is_fitting}
 use Rattle.fs_quadratic.specs.declared.steps.Place.{Place}
 use Rattle.fs_quadratic.proofs.Laws.{quadratic_ring, quadratic_order}
@@ -19,7 +17,7 @@ use Rattle.fs_plane.specs.Vector.{PlaneVector, vector_zero}
 use Rattle.fs_plane.proofs.ComputedSigns.{after_value}
 use Rattle.fs_convex.proofs.Rows.{Tiles}
 use Rattle.fs_gluing.specs.CrossingMap.{Crosses}
-use Rattle.fs_gluing.specs.Exchanges.{Letter, Component, IsLawful, length_of, length_before, top_left, bottom_left, Takes, IsExchange}
+use Rattle.fs_gluing.specs.Exchanges.{Letter, Component, IsLawful, length_of, length_before, top_left, Takes, IsExchange}
 use Rattle.fs_gluing.specs.Surface.{GluedPolygons, IsTranslationSurface}
 use Rattle.fs_iet.specs.Images.{Offset, letter_at, bottom_position, image}
 use Rattle.fs_iet.proofs.ComputedMeasures.{choice_by_comparison}

@@ -1,10 +1,10 @@
 -- Left ends of sides as left ends of letters, and how the flow takes the ones to the others. A library for crates to come.
-use Rattle.std.proofs.Common.{◌≡◌, ◌≢◌, ◌↔◌, ℕ, ◌<◌, Some, List, length, refl, sym, ap, ◌∙◌, subst}
+use Rattle.std.proofs.Common.{◌≡◌, ◌≢◌, ◌↔◌, ℕ, ◌<◌, Some, length, sym, ap, ◌∙◌, subst}
 use Rattle.std.specs.List.{slice_get}
 use Rattle.fs_quadratic.specs.Ring.{Quadratic}
 use Rattle.fs_plane.specs.declared.corners.Corner.{Corner}
 use Rattle.fs_plane.specs.Vector.{PlaneVector, vector_zero}
-use Rattle.fs_gluing.specs.CrossingMap.{IsIncoming, IsOutgoing, IsRealIncoming, IsRealOutgoing, block_start, outgoing_left, incoming_left, gluing_vector, Crosses, IsOutMark, IsInMark}
+use Rattle.fs_gluing.specs.CrossingMap.{IsIncoming, IsRealIncoming, IsRealOutgoing, block_start, outgoing_left, incoming_left, gluing_vector, Crosses, IsOutMark, IsInMark}
 use Rattle.fs_gluing.specs.Exchanges.{Component, top_left, bottom_left, IsExchange}
 use Rattle.fs_gluing.specs.Surface.{GluedPolygons, IsTranslationSurface}
 use Rattle.fs_gluing.specs.SurfaceSides.{partner}
@@ -12,7 +12,7 @@ use Rattle.fs_gluing.proofs.Sides.PartnerSides.{partner-partner}
 use Rattle.fs_iet.proofs.ListsInTurn.{in_by_number}
 use Rattle.fs_iet.proofs.SideMeasures.{partner_incoming, partner_outgoing}
 use Rattle.fs_iet.proofs.SidesOfRows.{row_side}
-use Rattle.fs_iet.proofs.CrossingMaps.{crosses_left_end, crosses_by_one_side, crosses_from_one_side, map_of_positions}
+use Rattle.fs_iet.proofs.CrossingMaps.{crosses_left_end, crosses_by_one_side, map_of_positions}
 use Rattle.fs_iet.proofs.ExchangeNames.{number_of_side}
 use Rattle.fs_iet.proofs.ExchangeRows.{top_left_is, bottom_left_is}
 use Rattle.fs_iet.proofs.ExchangeCrossings.{partner_one_to_one}

@@ -2,7 +2,7 @@
 use Rattle.std.proofs.Common.{◌≡◌, ◌≢◌, ℕ, zero, suc, [], ◌∷◌, refl, sym, ap, ◌∙◌, subst}
 use Rattle.fs_ring.specs.OrderedRing.{IsOrderedRing}
 use Rattle.fs_ring.proofs.Plane as plane
-use Rattle.fs_ring.proofs.Solver.{expressions as E, identity, derived, ◌⊕◌, ◌⊖◌, ◌≐◌, ◌from◌, numeral}
+use Rattle.fs_ring.proofs.Solver.{identity, derived, ◌⊕◌, ◌⊖◌, ◌≐◌, ◌from◌, numeral}
 use Rattle.fs_quadratic.specs.Ring.{Quadratic, quadratic, IsPositive, add, sub}
 use Rattle.fs_plane.specs.declared.corners.Corner.{Corner}
 use Rattle.fs_plane.specs.Vector.{PlaneVector, vector_zero, cross}
@@ -31,8 +31,8 @@ module _ (s : GluedPolygons) (surface : IsTranslationSurface s) (v : PlaneVector
       ap (λ h. cross s.d h v) c.put
       ∙ plane.cross-sub_left L.ring (position_in s end.polygon end.side) (position_in s other.polygon other.side) v
       ∙ derived L.ring
-          (y ∷ z ∷ block_start s v f.polygon ∷ leftmost s v f.polygon ∷ to_right s v end ∷ block_start s v other.polygon ∷ leftmost s v other.polygon ∷ to_right s v other ∷ [])
-          (λ y z b l t c m u. t ⊖ u ≐ (y ⊖ (b ⊖ l)) ⊖ (z ⊖ (c ⊖ m)) from (numeral 1, z ≐ (y ⊖ (b ⊕ (t ⊖ l))) ⊕ (c ⊕ (u ⊖ m))) ∷ []) refl (c.beyond, tt)
+      (y ∷ z ∷ block_start s v f.polygon ∷ leftmost s v f.polygon ∷ to_right s v end ∷ block_start s v other.polygon ∷ leftmost s v other.polygon ∷ to_right s v other ∷ [])
+      (λ y z b l t c m u. t ⊖ u ≐ (y ⊖ (b ⊖ l)) ⊖ (z ⊖ (c ⊖ m)) from (numeral 1, z ≐ (y ⊖ (b ⊕ (t ⊖ l))) ⊕ (c ⊕ (u ⊖ m))) ∷ []) refl (c.beyond, tt)
 
   -- so does the sum of the vectors of an orbit
   pub cross_of_orbit : v ≢ vector_zero → (n : ℕ) (y z : Quadratic) (h : PlaneVector) (i k : ℕ) → Orbit s v n y z h → IsOfPolygon s v i y → IsOfPolygon s v k z

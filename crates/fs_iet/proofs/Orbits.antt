@@ -1,5 +1,5 @@
 -- Orbits of the crossing map: they exist, are unique, join and can be cut. A library for crates to come.
-use Rattle.std.proofs.Common.{◌≡◌, ◌≢◌, ℕ, zero, suc, ◌+◌, ◌-◌, ◌<◌, ◌≤◌, [], ◌∷◌, refl, sym, ap, ◌∙◌, subst, arith}
+use Rattle.std.proofs.Common.{◌≡◌, ◌≢◌, ℕ, zero, suc, ◌+◌, [], ◌∷◌, refl, sym, ap, ◌∙◌, subst, arith}
 use Rattle.fs_ring.specs.Vector.{zero_vector, add_vector}
 use Rattle.fs_ring.proofs.Solver.{expressions as E}
 use Rattle.fs_ring.proofs.PlaneSolver.{vector_identity, ◌≐ᵥ◌}
@@ -23,6 +23,9 @@ module _ (s : GluedPolygons) (v : PlaneVector) where
 
   plus_assoc : (a b c : PlaneVector) → plus (plus a b) c ≡ plus a (plus b c)
   plus_assoc a b c = vector_identity (quadratic_ring s.d) [] (a ∷ b ∷ c ∷ []) (λ a b c. add_vector E (add_vector E a b) c ≐ᵥ add_vector E a (add_vector E b c)) refl
+
+  regroup : (h a b c e : PlaneVector) → h ≡ plus a b → b ≡ plus c e → h ≡ plus (plus a c) e
+  regroup h a b c e p q = p ∙ ap (plus a) q ∙ sym (plus_assoc a c e)
 
   -- ---- joined and cut
 
@@ -63,7 +66,7 @@ module _ (s : GluedPolygons) (v : PlaneVector) where
         rest.2,
         (whole.0, whole.1, rest.1, whole.3, whole.4, rest.3, refl),
         rest.4,
-        whole.6 ∙ ap (plus whole.1) rest.5 ∙ sym (plus_assoc whole.1 rest.1 rest.2),
+        regroup h whole.1 whole.2 rest.1 rest.2 whole.6 rest.5,
       )
 
   module _ (surface : IsTranslationSurface s) (some : v ≢ vector_zero) where

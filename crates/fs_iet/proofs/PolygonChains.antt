@@ -1,9 +1,9 @@
 -- The outgoing sides of a polygon and its incoming ones, from left to right: each kind is a chain, and its intervals fill the polygon's block. A library for crates to come.
-use Rattle.std.proofs.Common.{◌≡◌, ◌↔◌, ◌⊎◌, ℕ, suc, ◌+◌, ◌-◌, ◌<◌, ◌≤◌, List, length, refl, sym, ap, ◌∙◌, subst, inl, inr, arith}
+use Rattle.std.proofs.Common.{◌≡◌, ◌↔◌, ◌⊎◌, ℕ, suc, ◌+◌, ◌-◌, ◌<◌, ◌≤◌, List, length, sym, ap, ◌∙◌, subst, inl, inr, arith}
 use Rattle.fs_lists.specs.Members.{IsIn}
 use Rattle.fs_ring.specs.OrderedRing.{IsAtMost}
 use Rattle.fs_ring.proofs.Signs as signs
-use Rattle.fs_quadratic.specs.Ring.{Quadratic, quadratic, IsPositive, neg}
+use Rattle.fs_quadratic.specs.Ring.{quadratic, IsPositive, neg}
 use Rattle.fs_plane.specs.declared.corners.Corner.{Corner}
 use Rattle.fs_plane.specs.Vector.{PlaneVector}
 use Rattle.fs_convex.proofs.Rows.{Tiles, upward, downward, tiles_distinct}

@@ -1,13 +1,12 @@
 -- A side that the flow crosses is real exactly where its left end isn't the beginning of its polygon's block of positions. A library for crates to come.
-use Rattle.std.proofs.Common.{◌≡◌, ◌≢◌, ◌↔◌, ◌⊎◌, ℕ, suc, ◌+◌, ◌-◌, ◌<◌, ◌≤◌, List, length, refl, sym, ap, ◌∙◌, subst, inl, inr, arith}
+use Rattle.std.proofs.Common.{◌≡◌, ◌≢◌, ◌↔◌, ◌⊎◌, ℕ, suc, ◌+◌, ◌-◌, ◌<◌, ◌≤◌, length, refl, sym, ap, ◌∙◌, subst, inl, inr, arith}
 use Rattle.fs_ring.specs.OrderedRing.{IsAtMost}
 use Rattle.fs_ring.proofs.Order as order
-use Rattle.fs_quadratic.specs.Ring.{Quadratic, quadratic, IsPositive, IsLess, add}
+use Rattle.fs_quadratic.specs.Ring.{Quadratic, quadratic, IsPositive, add}
 use Rattle.fs_plane.specs.declared.corners.Corner.{Corner}
 use Rattle.fs_plane.specs.Vector.{PlaneVector, vector_zero}
 use Rattle.fs_gluing.specs.CrossingMap.{IsIncoming, IsOutgoing, IsRealIncoming, IsRealOutgoing, side_width, block_start, measure, outgoing_left, incoming_left}
 use Rattle.fs_gluing.specs.NextCorner.{side_count, corner_after, side_before}
-use Rattle.fs_gluing.specs.Polygons.{HasSide}
 use Rattle.fs_gluing.specs.Surface.{GluedPolygons, IsTranslationSurface}
 use Rattle.fs_gluing.proofs.SurfaceCalls.NextCorner.{has_after, after-before_corner, before-after_corner}
 use Rattle.fs_iet.proofs.ShiftedIntervals.{holds_left}
