@@ -24,3 +24,4 @@ pub mod Orbits
 pub mod FirstReturns
 pub mod PolygonPositions
 pub mod OrbitVectors
+pub mod CornerMeasures
