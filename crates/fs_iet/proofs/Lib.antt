@@ -25,3 +25,4 @@ pub mod FirstReturns
 pub mod PolygonPositions
 pub mod OrbitVectors
 pub mod CornerMeasures
+pub mod Floors
