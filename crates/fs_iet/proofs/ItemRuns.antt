@@ -112,6 +112,15 @@ module _ {X : Type 0} {f : X → X} {P : X → Type 0} {x : X} {m n : ℕ} (run 
       go (inr l) (inl h) = let more = run.more in absurd (run.outside m (omega arith) more (all m h))
       go (inr l) (inr h) = omega arith
 
+  -- a walk that stays among these items, its next one too, isn't over yet
+  pub run_goes_on : (k : ℕ) → ((j : ℕ) → j < k → P (iterate f j x)) → P (iterate f k x) → k < m
+  run_goes_on k all here = go (less_or_not k m) (less_or_not m k)
+    where
+      go : (k < m) ⊎ (m ≤ k) → (m < k) ⊎ (k ≤ m) → k < m
+      go (inl l) h = l
+      go (inr l) (inl h) = absurd (run.outside m (omega arith) run.more (all m h))
+      go (inr l) (inr h) = let same : k ≡ m = omega arith in absurd (run.outside m (omega arith) run.more (subst (λ (j : ℕ). P (iterate f j x)) same here))
+
   -- ---- no other list
 
   -- a walk that has exactly the items with the property, each once, begins at the first one

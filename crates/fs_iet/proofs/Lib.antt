@@ -1,2 +1,3 @@
 pub mod ItemRuns
 pub mod PolygonRows
+pub mod RowChains

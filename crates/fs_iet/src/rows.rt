@@ -4,6 +4,7 @@ ghost use Rattle.std.specs.Prelude.{◌≡◌, ◌≢◌, ◌↔◌, ◌<◌, �
 ghost use Rattle.fs_plane.specs.declared.corners.Corner.{Corner};
 ghost use Rattle.fs_gluing.specs.Exchanges.{AreChainsIn, IsChainIn};
 ghost use Rattle.fs_gluing.specs.Polygons.{HasSide};
+ghost use Rattle.fs_gluing.specs.Surface.{IsTranslationSurface};
 ghost use Rattle.fs_iet.specs.Rows.{HaveWidths, IsInRow, IsLeftmost, to_right_in, to_left_in};
 ghost use Rattle.fs_plane.specs.Vector.{vector_zero};
 
@@ -45,6 +46,7 @@ fn push_chain(
     i: u16,
     sides: &mut Sequence<Corner>,
 ) -> Result<(), AllocError>
+    requires surface { IsTranslationSurface surface.now }
     requires there { i < length surface.now.polygons }
     requires widths { HaveWidths surface.now v }
     requires direction { v ≢ vector_zero }
@@ -60,6 +62,7 @@ fn push_chain(
 
 // The leftmost side of polygon i in a row: the one to its left isn't in the row.
 fn find_leftmost(surface: &Surface, v: V2, row: Row, i: u16) -> Corner
+    requires surface { IsTranslationSurface surface.now }
     requires there { i < length surface.now.polygons }
     requires widths { HaveWidths surface.now v }
     requires direction { v ≢ vector_zero }
