@@ -1,3 +1,4 @@
 pub mod ItemRuns
 pub mod PolygonRows
 pub mod RowChains
+pub mod LetterCalls

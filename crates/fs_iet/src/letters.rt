@@ -3,8 +3,10 @@
 ghost use Rattle.std.specs.Prelude.{◌≡◌, ◌+◌, ◌<◌, ◌≤◌, ◌^◌, ℕ, Some, length, IfOk};
 ghost use Rattle.std.specs.List.{slice_get, AllByRecursion};
 ghost use Rattle.fs_plane.specs.declared.corners.Corner.{Corner};
-ghost use Rattle.fs_gluing.specs.CrossingMap.{IsOutgoing};
+ghost use Rattle.fs_gluing.specs.CrossingMap.{IsOutgoing, gluing_vector};
+ghost use Rattle.fs_gluing.specs.Exchanges as exchanges;
 ghost use Rattle.fs_gluing.specs.Exchanges.{IsLetterOf};
+ghost use Rattle.fs_gluing.specs.Surface.{IsTranslationSurface};
 ghost use Rattle.fs_iet.specs.ExchangeValue.{most_letters};
 ghost use Rattle.fs_iet.specs.Rows.{HaveWidths, HaveReturns};
 
@@ -64,11 +66,13 @@ pub fn find_letters(
     v: V2,
     row: &[Corner],
 ) -> Result<Sequence<Letter>, AllocError>
+    requires surface { IsTranslationSurface surface.now }
     requires outgoing { AllByRecursion (IsOutgoing surface.now v) row.now }
     requires few { length row.now ≤ most_letters }
     requires widths { HaveWidths surface.now v }
     requires returns { HaveReturns surface.now v }
     ensures as_many { IfOk result (λ letters. length letters ≡ length row.now) }
+    ensures letters { IfOk result (λ letters. (n : ℕ) (f : Corner) (letter : exchanges.Letter) → slice_get row.now n ≡ Some f → slice_get letters n ≡ Some letter → IsLetterOf surface.now v f n letter) }
 {
     let mut letters = Sequence::new(alloc);
     for (n, &f) in row.iter().enumerate() {
@@ -79,6 +83,7 @@ pub fn find_letters(
 
 // The letter of an outgoing side.
 fn letter_of(surface: &Surface, v: V2, f: Corner, name: u32) -> Letter
+    requires surface { IsTranslationSurface surface.now }
     requires outgoing { IsOutgoing surface.now v f }
     requires widths { HaveWidths surface.now v }
     requires returns { HaveReturns surface.now v }
@@ -104,8 +109,10 @@ fn letter_of(surface: &Surface, v: V2, f: Corner, name: u32) -> Letter
 
 // The return vector of an outgoing side's letter, where its formula doesn't overflow.
 fn return_of(surface: &Surface, v: V2, f: Corner) -> V2
+    requires surface { IsTranslationSurface surface.now }
     requires outgoing { IsOutgoing surface.now v f }
     requires returns { HaveReturns surface.now v }
+    ensures { result ≡ gluing_vector surface.now v f }
 {
     match find_return(surface, f) {
         Ok(back) => back,
