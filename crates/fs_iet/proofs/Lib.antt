@@ -1,1 +1,2 @@
 pub mod SidesListed
+pub mod SurfaceReads
