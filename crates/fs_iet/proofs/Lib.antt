@@ -1,2 +1,3 @@
 pub mod SidesListed
+pub mod SiteSums
 pub mod SurfaceReads

@@ -58,6 +58,8 @@ pub fn check_returns(surface: &Surface, v: V2, sides: &[Corner]) -> Result<(), S
     ensures returned { OnOk result (checked_returns surface.now v sides.now ≡ Ok true) }
     ensures stops { IfErr result (λ site. checked_returns surface.now v sides.now ≡ Err site) }
 {
+    // The contract of this call says what holds of the surface.
+    let _ = surface.field();
     for &f in sides {
         if is_outgoing(surface, v, f) {
             if let Err(Place(place)) = find_return(surface, f) {
