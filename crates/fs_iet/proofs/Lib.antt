@@ -1,7 +1,8 @@
 pub mod ItemRuns
 pub mod PolygonRows
 pub mod RowChains
-pub mod LetterCalls
+pub mod LetterVectors
 pub mod SidesListed
 pub mod SiteSums
 pub mod SurfaceReads
+pub mod NumberedItems

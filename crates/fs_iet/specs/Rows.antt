@@ -31,7 +31,7 @@ module _ (s : GluedPolygons) (v : PlaneVector) where
 
   -- so are the return vectors of all outgoing sides
   abbrev pub HaveReturns : Type 0
-  HaveReturns = (f : Corner) → IsOutgoing s v f → IsOk (checked_return s v f)
+  HaveReturns = (f : Corner) → IsOutgoing s v f → IsOk (checked_return s f)
 
   -- the sides of a row
   abbrev pub IsInRow : Row → Corner → Type 0

@@ -6,11 +6,10 @@ ghost use Rattle.fs_plane.specs.declared.corners.Corner.{Corner};
 ghost use Rattle.fs_gluing.specs.CrossingMap.{IsOutgoing, gluing_vector};
 ghost use Rattle.fs_gluing.specs.Exchanges as exchanges;
 ghost use Rattle.fs_gluing.specs.Exchanges.{IsLetterOf};
-ghost use Rattle.fs_gluing.specs.Surface.{IsTranslationSurface};
 ghost use Rattle.fs_iet.specs.ExchangeValue.{most_letters};
 ghost use Rattle.fs_iet.specs.Rows.{HaveWidths, HaveReturns};
 
-use crate::sites::find_return;
+use crate::sites::{find_return, partner_of, position_of};
 use crate::widths::{is_incoming, is_outgoing, side_width};
 use fs_gluing::{Sequence, Surface};
 use fs_plane::{Corner, V2};
@@ -66,7 +65,6 @@ pub fn find_letters(
     v: V2,
     row: &[Corner],
 ) -> Result<Sequence<Letter>, AllocError>
-    requires surface { IsTranslationSurface surface.now }
     requires outgoing { AllByRecursion (IsOutgoing surface.now v) row.now }
     requires few { length row.now ≤ most_letters }
     requires widths { HaveWidths surface.now v }
@@ -83,13 +81,12 @@ pub fn find_letters(
 
 // The letter of an outgoing side.
 fn letter_of(surface: &Surface, v: V2, f: Corner, name: u32) -> Letter
-    requires surface { IsTranslationSurface surface.now }
     requires outgoing { IsOutgoing surface.now v f }
     requires widths { HaveWidths surface.now v }
     requires returns { HaveReturns surface.now v }
     ensures { IsLetterOf surface.now v f name result }
 {
-    let partner = surface.partner(f);
+    let partner = partner_of(surface, f);
     let after = surface.corner_after(f);
     Letter {
         name,
@@ -97,11 +94,11 @@ fn letter_of(surface: &Surface, v: V2, f: Corner, name: u32) -> Letter
         back: return_of(surface, v, f),
         corner: partner,
         start: Tag {
-            v: surface.place(partner).neg(),
+            v: position_of(surface, partner).neg(),
             real: is_incoming(surface, v, surface.side_before(partner)),
         },
         end: Tag {
-            v: surface.place(after),
+            v: position_of(surface, after),
             real: is_outgoing(surface, v, after),
         },
     }
@@ -109,7 +106,6 @@ fn letter_of(surface: &Surface, v: V2, f: Corner, name: u32) -> Letter
 
 // The return vector of an outgoing side's letter, where its formula doesn't overflow.
 fn return_of(surface: &Surface, v: V2, f: Corner) -> V2
-    requires surface { IsTranslationSurface surface.now }
     requires outgoing { IsOutgoing surface.now v f }
     requires returns { HaveReturns surface.now v }
     ensures { result ≡ gluing_vector surface.now v f }
