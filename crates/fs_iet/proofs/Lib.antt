@@ -1,7 +1,7 @@
 pub mod ItemRuns
 pub mod PolygonRows
 pub mod RowChains
-pub mod LetterVectors
+pub mod RowLetters
 pub mod SidesListed
 pub mod SiteSums
 pub mod SurfaceReads

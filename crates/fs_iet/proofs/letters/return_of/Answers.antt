@@ -1,6 +1,6 @@
 -- The formula doesn't overflow, and gives the return vector.
 use Rattle.std.proofs.Common.{sym, ◌∙◌}
-use Rattle.fs_iet.proofs.LetterVectors.{return_value, no_overflow}
+use Rattle.fs_iet.proofs.RowLetters.{return_value, no_overflow}
 use Rattle.fs_iet.proofs.letters.return_of.Goals as goal
 
 pub unreachable-requires : goal.unreachable-requires
