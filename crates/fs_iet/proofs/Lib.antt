@@ -6,3 +6,4 @@ pub mod SidesListed
 pub mod SiteSums
 pub mod SurfaceReads
 pub mod NumberedItems
+pub mod SideTables
