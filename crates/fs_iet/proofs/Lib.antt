@@ -7,3 +7,4 @@ pub mod SiteSums
 pub mod SurfaceReads
 pub mod NumberedItems
 pub mod SideTables
+pub mod BottomNames
