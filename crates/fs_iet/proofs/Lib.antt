@@ -1,3 +1,4 @@
+pub mod Items
 pub mod PositionImages
 pub mod SidesListed
 pub mod SiteSums
