@@ -20,8 +20,8 @@ use Rattle.fs_quadratic.specs.declared.steps.Place.{Place}
 use Rattle.fs_quadratic.proofs.Laws.{quadratic_ring, field_order}
 use Rattle.fs_quadratic.proofs.SquareRoot.{radicand_no_square}
 use Rattle.fs_quadratic.proofs.Signs.{less_iff_less}
-use Rattle.fs_gluing.specs.Exchanges.{Letter, names_of, length_of}
-use Rattle.fs_iet.specs.Images.{Offset, letter_at, bottom_position}
+use Rattle.fs_gluing.specs.Exchanges.{Letter, Component, names_of, length_of}
+use Rattle.fs_iet.specs.Images.{Offset, letter_at, bottom_position, image}
 
 -- the value of a step
 value_of_step : {A : Type 0} (n : ℕ) (test : Bool) (value x : A) → Ok x ≡ step n test value → x ≡ value
@@ -114,3 +114,18 @@ module _ (letters : List Letter) (bottom : List ℕ) (name : ℕ) (start : Quadr
     -- or this overflow
     pub adds_stop : (stop : Place) → Err stop ≡ checked_sum (513 + n) y letter.length → ◌≡◌ {A = Result Quadratic Place} (Err stop) (bottom_position letters 0 name start bottom)
     adds_stop stop e = sym (by_name ∙ ap (λ r. r >>= (λ sum. bottom_position letters (n + 1) name sum (drop (n + 1) bottom))) (sym e))
+
+-- ---- both rows
+
+module _ (d : ℕ) (y : Quadratic) (letters : List Letter) (bottom : List ℕ) (c : Component) (top_is : c.top ≡ letters) (bottom_is : c.bottom ≡ bottom) where
+  image_is : image d c y ≡ (letter_at d 0 y letters >>= (λ at. bottom_position letters 0 at.name at.offset bottom))
+  unfolding image
+  image_is = λ i. letter_at d 0 y (top_is i) >>= (λ at. bottom_position (top_is i) 0 at.name at.offset (bottom_is i))
+
+  -- the image of a position in a letter
+  pub image_from : (at : Offset) (r : Result Quadratic Place) → Ok at ≡ letter_at d 0 y letters → r ≡ bottom_position letters 0 at.name at.offset bottom → r ≡ image d c y
+  image_from at r e f = f ∙ ap (λ found. found >>= (λ at. bottom_position letters 0 at.name at.offset bottom)) e ∙ sym image_is
+
+  -- where the letter isn't found, as a difference overflows
+  pub image_stop : (stop : Place) → Err stop ≡ letter_at d 0 y letters → Err stop ≡ image d c y
+  image_stop stop e = ap (λ found. found >>= (λ at. bottom_position letters 0 at.name at.offset bottom)) e ∙ sym image_is
