@@ -1,3 +1,4 @@
+pub mod ExchangeRows
 pub mod Items
 pub mod PositionImages
 pub mod SidesListed
