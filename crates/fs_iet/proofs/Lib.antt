@@ -2,6 +2,9 @@ pub mod ItemRuns
 pub mod PolygonRows
 pub mod RowChains
 pub mod RowLetters
+pub mod ExchangeRows
+pub mod Items
+pub mod PositionImages
 pub mod SidesListed
 pub mod SiteSums
 pub mod SurfaceReads

@@ -4,9 +4,6 @@ use Rattle.std.proofs.lemmas.List.{drop_all}
 use Rattle.std.specs.Ordering.{is_lt}
 use Rattle.std.specs.declared.cmp.Ordering.{Ordering}
 use Rattle.std.specs.declared.cmp.Ordering.TheVariants.{Less, Equal, Greater}
-use Rattle.std.specs.List.{AllByRecursion}
-use Rattle.std.proofs.lemmas.Option.{slice_get_read}
-use Rattle.fs_lists.proofs.All.{All-slice_get}
 use Rattle.fs_lists.proofs.Items.{IsItem, drop_item}
 use Rattle.fs_quadratic.specs.Ring as ring
 use Rattle.fs_quadratic.specs.Ring.{Quadratic, sign}
@@ -21,10 +18,6 @@ use Rattle.fs_gluing.specs.CrossingMap.{across, IsOutgoing}
 use Rattle.fs_gluing.specs.Polygons.{HasSide}
 use Rattle.fs_gluing.specs.Surface.{GluedPolygons}
 use Rattle.fs_iet.specs.ExchangeSites.{add_side, sum_after, measured, checked_return, checked_returns, returned}
-
--- what holds of each item holds of the one at an index
-pub item_holds : {X : Type 0} (P : X → Type 0) (xs : List X) (i : ℕ) (x : X) → AllByRecursion P xs → IsItem xs i x → P x
-item_holds P xs i x all item = All-slice_get P xs i x all (slice_get_read xs (length xs) i x refl item.inside item.is)
 
 module _ (s : GluedPolygons) (v : PlaneVector) where
   -- the sides before i are in the sum

@@ -4,7 +4,8 @@ use Rattle.fs_lists.proofs.Items.{item_of}
 use Rattle.fs_plane.specs.declared.sites.Site.TheVariants as sites
 use Rattle.fs_gluing.specs.Polygons.{HasSide}
 use Rattle.fs_quadratic.proofs.SquareRoot.{radicand_no_square}
-use Rattle.fs_iet.proofs.SiteSums.{item_holds, returns_more, returns_other, returns_stop}
+use Rattle.fs_iet.proofs.Items.{item_holds}
+use Rattle.fs_iet.proofs.SiteSums.{returns_more, returns_other, returns_stop}
 use Rattle.fs_iet.proofs.sites.check_returns.Goals as goal
 use Rattle.fs_iet.proofs.sites.check_returns.Goals.{then-is_outgoing+in_default, else-is_outgoing}
 
