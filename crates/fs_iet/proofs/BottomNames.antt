@@ -8,7 +8,7 @@ use Rattle.std.specs.List.{slice_get}
 use Rattle.fs_lists.specs.Members.{IsIn, IsDistinct}
 use Rattle.fs_plane.specs.declared.corners.Corner.{Corner}
 use Rattle.fs_gluing.specs.Polygons.{at_side, HasSide}
-use Rattle.fs_iet.proofs.NumberedItems.{number_of, number_unique}
+use Rattle.fs_iet.proofs.ListsInTurn.{number_of_member, number_unique}
 
 -- the table has the number of each of the first n sides
 abbrev pub AreNumbered : List Corner → List (List ℕ) → ℕ → Type 0
@@ -25,17 +25,17 @@ numbered_more outgoing old new n d once inside here others before k f below e = 
         ap (at_side new) (sym read) ∙ here ∙ ap (λ (i : ℕ). Some i) (sym same)
     go (inr other) =
         let less : k < n = omega arith in
-        others f (λ h. other (number_unique outgoing k n f once e (slice_get-get_or outgoing n d inside ∙ ap (λ (x : Corner). Some x) (sym h)))) ∙ before k f less e
+        others f (λ h. other (number_unique outgoing once k n f e (slice_get-get_or outgoing n d inside ∙ ap (λ (x : Corner). Some x) (sym h)))) ∙ before k f less e
 
 module _ (outgoing : List Corner) (table : List (List ℕ)) (numbers : (n : ℕ) (f : Corner) → slice_get outgoing n ≡ Some f → at_side table f ≡ Some n) (f : Corner) (there : IsIn f outgoing) where
   -- an outgoing side has a number
   pub has_number : HasSide table f
-  has_number = let r = number_of outgoing f there in subst IsSome (sym (numbers r.0 f r.1)) refl
+  has_number = let r = number_of_member outgoing f there in subst IsSome (sym (numbers r.0 f r.1)) refl
 
   -- by which it is found
   pub side_of_number : (name : ℕ) → at_side table f ≡ Some name → slice_get outgoing name ≡ Some f
   side_of_number name e =
-      let r = number_of outgoing f there in
+      let r = number_of_member outgoing f there in
       let same : r.0 ≡ name = same_Some r.0 name (sym (numbers r.0 f r.1) ∙ e) in
       ap (slice_get outgoing) (sym same) ∙ r.1
 

@@ -3,6 +3,7 @@ pub mod PolygonRows
 pub mod RowChains
 pub mod RowLetters
 pub mod ExchangeRows
+pub mod NumbersInRows
 pub mod Items
 pub mod PositionImages
 pub mod SidesListed
@@ -28,4 +29,3 @@ pub mod SidesOfRows
 pub mod CrossingMaps
 pub mod ListsInTurn
 pub mod ExchangeNames
-pub mod ExchangeRows

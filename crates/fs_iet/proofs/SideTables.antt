@@ -94,7 +94,3 @@ module _ {V X : Type 0} (items : V → List X) (rows : List V) where
           let read : slice_get (map items (rows ++ row ∷ [])) c.polygon ≡ slice_get (map items rows) c.polygon
           = ap (λ t. slice_get t c.polygon) whole ∙ slice_get-before (map items rows) (items row) c.polygon (let l = rows_long in omega arith) in
           subst IsSome (sym (ap (in_row c.side) read)) (before c less has)
-
--- the polygon of a side that exists is one of the polygons
-pub polygon_below : {X : Type 0} (polygons : List (List X)) (c : Corner) → HasSide polygons c → c.polygon < length polygons
-polygon_below polygons c h = let there = in_polygon polygons c h in slice_get_within polygons c.polygon there.polygon there.is

@@ -7,7 +7,7 @@ use Rattle.fs_plane.specs.declared.corners.Corner.{Corner}
 use Rattle.fs_gluing.specs.Polygons.{HasSide, at_side}
 use Rattle.fs_gluing.specs.SurfaceSides.{partner}
 use Rattle.fs_iet.proofs.BottomNames.{has_number, side_of_number, names_more}
-use Rattle.fs_iet.proofs.SiteSums.{item_holds}
+use Rattle.fs_iet.proofs.Items.{item_holds}
 use Rattle.fs_iet.proofs.numbers.find_bottom.Goals as goal
 use Rattle.fs_iet.proofs.numbers.find_bottom.Goals.{After-partner_of}
 

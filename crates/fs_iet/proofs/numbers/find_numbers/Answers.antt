@@ -5,7 +5,7 @@ use Rattle.fs_plane.specs.declared.corners.Corner.{Corner}
 use Rattle.fs_gluing.specs.Polygons.{at_side, HasSide}
 use Rattle.fs_lists.proofs.Items.{item_of}
 use Rattle.fs_iet.proofs.BottomNames.{numbered_more}
-use Rattle.fs_iet.proofs.SiteSums.{item_holds}
+use Rattle.fs_iet.proofs.Items.{item_holds}
 use Rattle.fs_iet.proofs.numbers.find_numbers.Goals as goal
 
 pub set-requires : goal.set-requires

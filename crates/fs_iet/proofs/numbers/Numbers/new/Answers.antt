@@ -3,7 +3,8 @@ use Rattle.std.proofs.Common.{◌≡◌, ◌∷◌, [], ◌+◌, ◌<◌, map, s
 use Rattle.std.proofs.lemmas.List.{length-replicate}
 use Rattle.fs_plane.specs.declared.corners.Corner.{Corner}
 use Rattle.fs_gluing.specs.Polygons.{at_side, HasSide}
-use Rattle.fs_iet.proofs.SideTables.{rows_more, polygon_below}
+use Rattle.fs_iet.proofs.SideTables.{rows_more}
+use Rattle.fs_iet.proofs.SidesOfRows.{polygon_exists}
 use Rattle.fs_iet.proofs.numbers.Numbers.new.Goals as goal
 
 pub loop-i-preserved : goal.loop-i-preserved
@@ -20,5 +21,5 @@ pub returns : goal.returns
 returns c = λ e h.
     let out = c.loop-i-test.false in
     let polygons = c.polygons-i-end.ensures.polygons in
-    let below = polygon_below c.args.surface.now.polygons e h in
+    let below = polygon_exists c.args.surface.now.polygons e h in
     c.loop-i.invariant.there e (omega arith) h
