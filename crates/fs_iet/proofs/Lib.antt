@@ -29,3 +29,4 @@ pub mod SidesOfRows
 pub mod CrossingMaps
 pub mod ListsInTurn
 pub mod ExchangeNames
+pub mod BuiltExchanges
