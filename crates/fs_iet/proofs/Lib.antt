@@ -30,3 +30,4 @@ pub mod CrossingMaps
 pub mod ListsInTurn
 pub mod ExchangeNames
 pub mod BuiltExchanges
+pub mod ExchangeUnique

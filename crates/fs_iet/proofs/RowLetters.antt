@@ -6,7 +6,6 @@ use Rattle.std.specs.Result.{IsOk}
 use Rattle.fs_plane.specs.declared.corners.Corner.{Corner}
 use Rattle.fs_plane.specs.Vector.{PlaneVector}
 use Rattle.fs_plane.proofs.FormulaLaws.{difference_value}
-use Rattle.fs_quadratic.specs.declared.steps.Place.{Place}
 use Rattle.fs_gluing.specs.CrossingMap.{gluing_vector}
 use Rattle.fs_gluing.specs.Exchanges.{Letter, IsLetterOf}
 use Rattle.fs_gluing.specs.Surface.{GluedPolygons}
@@ -17,10 +16,10 @@ use Rattle.fs_iet.proofs.NumberedItems.{item_of_more}
 pub return_value : (s : GluedPolygons) (v : PlaneVector) (f : Corner) (back : PlaneVector) → checked_return s f ≡ Ok back → back ≡ gluing_vector s v f
 return_value s v f back e = difference_value s.d 0 _ _ back e
 
--- it doesn't overflow
-pub no_overflow : {X : Type 0} (r : Result X Place) (place : Place) → r ≡ Err place → IsOk r → ⊥
-no_overflow (Ok x) place e h = cc
-no_overflow (Err place) other e h = cc
+-- an `Err` isn't `Ok`
+pub not_ok : {X E : Type 0} (r : Result X E) (e : E) → r ≡ Err e → IsOk r → ⊥
+not_ok (Ok x) e same h = cc
+not_ok (Err x) e same h = cc
 
 -- the letters of a row, and one more
 pub letters_more : (s : GluedPolygons) (v : PlaneVector) (row : List Corner) (letters more : List Letter) (k : ℕ) (d : Corner) (letter : Letter) → more ≡ letters ++ letter ∷ [] → length letters ≡ k
