@@ -1,4 +1,5 @@
 pub mod ExchangeRows
+pub mod FittingSides
 pub mod Items
 pub mod PositionImages
 pub mod SidesListed
