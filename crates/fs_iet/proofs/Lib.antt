@@ -5,3 +5,4 @@ pub mod PositionImages
 pub mod SidesListed
 pub mod SiteSums
 pub mod SurfaceReads
+pub mod WidthTotals
