@@ -1,7 +1,7 @@
 -- The rows are those of an exchange.
 use Rattle.std.proofs.Common.{subst, ap, ◌∙◌}
 use Rattle.fs_iet.specs.ExchangeValue.{ExchangeValue, IsExchangeValue}
-use Rattle.fs_iet.proofs.ExchangeRows.{rows_within, row_short}
+use Rattle.fs_iet.proofs.NumbersInRows.{rows_within, row_short}
 use Rattle.fs_iet.proofs.exchanges.Exchange.image.Goals as goal
 
 pub find_image-requires-clause-within : goal.find_image-requires-clause-within
