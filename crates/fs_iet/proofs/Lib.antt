@@ -4,6 +4,7 @@ pub mod ComputedMeasures
 pub mod CrossingMaps
 pub mod ExchangeCrossings
 pub mod ExchangeNames
+pub mod ExchangeResults
 pub mod ExchangeRows
 pub mod FirstReturns
 pub mod FittingSides
