@@ -12,6 +12,7 @@ use Rattle.fs_quadratic.specs.Ring as ring
 use Rattle.fs_quadratic.specs.Ring.{Quadratic, add, total, sign}
 use Rattle.fs_quadratic.specs.Width.{is_fitting}
 use Rattle.fs_quadratic.specs.declared.steps.Place.{Place}
+use Rattle.fs_quadratic.proofs.StepChains.{step_value}
 use Rattle.fs_quadratic.proofs.Laws.{quadratic_ring}
 use Rattle.fs_plane.specs.declared.corners.Corner.{Corner}
 use Rattle.fs_plane.specs.Formulas.{cross_after}
@@ -38,10 +39,6 @@ map_by_index : {X Y : Type 0} (f : ℕ → Y) (g : X → Y) (a : ℕ) (xs : List
 map_by_index f g a [] h = refl
 map_by_index f g a (x ∷ xs) h = λ i. (ap f (let e : a ≡ a + 0 = omega arith in e) ∙ h 0 x refl) i ∷ map_by_index f g (a + 1) xs (λ k y e. ap f (let n : a + 1 + k ≡ a + suc k = omega arith in n) ∙ h (suc k) y e) i
 
-value_of_step : {A : Type 0} (n : ℕ) (test : Bool) (value x : A) → step n test value ≡ Ok x → x ≡ value
-value_of_step n true value x e = cc
-value_of_step n false value x e = cc
-
 module _ (s : GluedPolygons) (v : PlaneVector) where
   -- the width of a side where it is incoming, else 0
   abbrev incoming_width : Corner → Quadratic
@@ -51,7 +48,7 @@ module _ (s : GluedPolygons) (v : PlaneVector) where
 
   -- a width added where it is above 0
   added : (sum x next : Quadratic) (test : Bool) → is_gt (sign s.d x) ≡ test → (if test then checked_sum 4 sum x else Ok sum) ≡ Ok next → next ≡ add sum (positive_part s.d x)
-  added sum x next true is e = value_of_step 4 (is_fitting (add sum x)) (add sum x) next e ∙ ap (λ t. add sum (if t then x else ring.zero)) (sym is)
+  added sum x next true is e = step_value 4 (is_fitting (add sum x)) (add sum x) next e ∙ ap (λ t. add sum (if t then x else ring.zero)) (sym is)
   added sum x next false is e =
       let same : next ≡ sum = cc in
       same ∙ sym ((quadratic_ring s.d).add_zero sum) ∙ ap (λ t. add sum (if t then x else ring.zero)) (sym is)
