@@ -1,4 +1,5 @@
 pub mod BottomNames
+pub mod BuiltExchanges
 pub mod Chains
 pub mod ComputedMeasures
 pub mod CrossingMaps
