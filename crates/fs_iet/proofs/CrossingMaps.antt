@@ -1,13 +1,13 @@
 -- Where a flow leads from a crossing to the next is a map of positions, one to one and onto. A library for crates to come.
-use Rattle.std.proofs.Common.{◌≡◌, ◌≢◌, ℕ, List, length, refl, sym, ap, ◌∙◌, subst}
+use Rattle.std.proofs.Common.{◌≡◌, ◌≢◌, List, length, refl, sym, ap, ◌∙◌, subst}
 use Rattle.fs_lists.specs.Members.{IsIn}
-use Rattle.fs_ring.specs.OrderedRing.{IsOrderedRing, IsAtMost}
+use Rattle.fs_ring.specs.OrderedRing.{IsAtMost}
 use Rattle.fs_ring.proofs.Order as order
 use Rattle.fs_quadratic.specs.Ring.{Quadratic, quadratic, IsPositive, IsLess, add, zero as nil}
 use Rattle.fs_plane.specs.declared.corners.Corner.{Corner}
 use Rattle.fs_plane.specs.Vector.{PlaneVector, vector_zero}
 use Rattle.fs_convex.proofs.Rows.{Tiles, Holds, tiles_bounds, tile_exists, tile_unique}
-use Rattle.fs_gluing.specs.CrossingMap.{IsIncoming, IsOutgoing, side_width, block_start, outgoing_left, incoming_left, gluing_vector, IsPosition, Crosses, IsMapOfPositions}
+use Rattle.fs_gluing.specs.CrossingMap.{IsOutgoing, side_width, block_start, outgoing_left, incoming_left, gluing_vector, IsPosition, Crosses, IsMapOfPositions}
 use Rattle.fs_gluing.specs.Surface.{GluedPolygons, IsTranslationSurface}
 use Rattle.fs_gluing.specs.SurfaceSides.{partner}
 use Rattle.fs_gluing.proofs.Sides.PartnerSides.{partner-partner}

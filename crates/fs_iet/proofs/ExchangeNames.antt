@@ -1,8 +1,8 @@
 -- The names of the exchange of a flow: those of the top row are their numbers, and the bottom row has the same. A library for crates to come.
-use Rattle.std.proofs.Common.{◌≡◌, ◌≢◌, ◌⊎◌, ℕ, zero, suc, ◌+◌, ◌<◌, ◌≤◌, Option, Some, List, [], ◌∷◌, map, length, IsPermutation, refl, sym, ap, ◌∙◌, subst, inl, inr, arith}
+use Rattle.std.proofs.Common.{◌≡◌, ◌≢◌, ℕ, Option, Some, List, length, IsPermutation, sym, ap, ◌∙◌, subst, arith}
 use Rattle.std.proofs.lemmas.Option.{slice_get_within, same_Some}
 use Rattle.std.specs.List.{slice_get, range_with_len}
-use Rattle.fs_lists.specs.Members.{IsIn, IsDistinct}
+use Rattle.fs_lists.specs.Members.{IsDistinct}
 use Rattle.fs_lists.proofs.Members.{apart_map}
 use Rattle.fs_lists.proofs.Items.{item_inside}
 use Rattle.fs_lists.proofs.Ranges.{in_range, range_bounds, range_distinct}
@@ -15,7 +15,7 @@ use Rattle.fs_gluing.specs.SurfaceSides.{partner}
 use Rattle.fs_gluing.proofs.Sides.PartnerSides.{partner-partner}
 use Rattle.fs_iet.proofs.Rearrangements.{permutation_of_members}
 use Rattle.fs_iet.proofs.ListsInTurn.{in_by_number, number_of_member, number_unique, item_of_other, equal_maps, equal_maps_length, distinct_of_map, map_is_range}
-use Rattle.fs_iet.proofs.SideMeasures.{partner_incoming, partner_outgoing}
+use Rattle.fs_iet.proofs.SideMeasures.{partner_incoming}
 use Rattle.fs_iet.proofs.SidesOfRows.{row_side, in_top_row, in_bottom_row, top_row_distinct, bottom_row_distinct}
 
 module _ (s : GluedPolygons) (surface : IsTranslationSurface s) (v : PlaneVector) (some : v ≢ vector_zero) {c : Component} (exchange : IsExchange s v c) where

@@ -1,5 +1,5 @@
 -- The exchange of a flow is lawful, and the left ends of its letters are the measures of their sides. A library for crates to come.
-use Rattle.std.proofs.Common.{◌≡◌, ◌≢◌, ◌⊎◌, ℕ, zero, suc, ◌+◌, ◌*◌, ◌<◌, ◌≤◌, Some, List, [], ◌∷◌, map, length, refl, sym, ap, ◌∙◌, subst, inl, inr, arith}
+use Rattle.std.proofs.Common.{◌≡◌, ◌≢◌, ℕ, ◌<◌, ◌≤◌, Some, List, [], ◌∷◌, map, length, refl, sym, ap, ◌∙◌, subst, inl, inr, arith}
 use Rattle.std.proofs.lemmas.Option.{same_Some}
 use Rattle.std.specs.List.{slice_get, AllByRecursion}
 use Rattle.fs_lists.specs.Members.{IsIn}
@@ -8,11 +8,9 @@ use Rattle.fs_plane.specs.declared.corners.Corner.{Corner}
 use Rattle.fs_plane.specs.Vector.{PlaneVector, vector_zero}
 use Rattle.fs_convex.proofs.Rows.{Tiles}
 use Rattle.fs_gluing.specs.CrossingMap.{IsOutgoing, side_width, block_start, outgoing_left, incoming_left}
-use Rattle.fs_gluing.specs.Exchanges.{Letter, Component, IsLawful, names_of, length_of, top_left, bottom_left, IsExchange}
-use Rattle.fs_gluing.specs.Limits.{most_sides}
+use Rattle.fs_gluing.specs.Exchanges.{Letter, Component, IsLawful, length_of, top_left, bottom_left, IsExchange}
 use Rattle.fs_gluing.specs.Surface.{GluedPolygons, IsTranslationSurface, IsSurface}
 use Rattle.fs_gluing.specs.SurfaceSides.{partner}
-use Rattle.fs_gluing.proofs.Sides.PartnerSides.{partner-partner}
 use Rattle.fs_iet.specs.ExchangeValue.{most_letters, IsExchangeValue}
 use Rattle.fs_iet.proofs.Intervals.{tiles_lefts, tiles_total}
 use Rattle.fs_iet.proofs.ListsInTurn.{in_by_number, number_of_member, maps_equal}
@@ -21,7 +19,7 @@ use Rattle.fs_iet.proofs.PolygonMeasures.{runs_across, outgoing_numbered}
 use Rattle.fs_iet.proofs.SideMeasures.{surface_order, outgoing_wide, incoming_partner_width}
 use Rattle.fs_iet.proofs.SideRows.{top_row_tiles, bottom_row_tiles}
 use Rattle.fs_iet.proofs.SidesOfRows.{in_top_row, half_outgoing}
-use Rattle.fs_iet.proofs.ExchangeNames.{letter_of_side, side_of_letter, number_of_side, names_are_numbers, names_distinct, side_of_bottom, place_of_number, rows_permuted}
+use Rattle.fs_iet.proofs.ExchangeNames.{letter_of_side, side_of_letter, names_are_numbers, names_distinct, side_of_bottom, place_of_number, rows_permuted}
 
 module _ (s : GluedPolygons) (surface : IsTranslationSurface s) (v : PlaneVector) (some : v ≢ vector_zero) where
   -- there is a side by which the flow leaves
@@ -79,10 +77,10 @@ module _ (s : GluedPolygons) (surface : IsTranslationSurface s) (v : PlaneVector
         let letter = letter_of_side s surface v some exchange n f e in
         ap (top_left c) (sym letter.2.named)
         ∙ tiles_lefts (quadratic s.d) (λ letter. top_left c letter.name) (λ letter. letter.length) (outgoing_left s v) (side_width s v)
-            nil end (add c.base c.total) c.top exchange.outgoing
-            (subst (λ b. Tiles (quadratic s.d) (λ letter. top_left c letter.name) (λ letter. letter.length) b c.top (add c.base c.total)) exchange.base (top_tiles (surface_order s surface) exchange_lawful))
-            (top_row_tiles s surface v some exchange.outgoing exchange.top_row)
-            (λ n letter f e h. (exchange.letters n f letter h e).length) n letter.0 f letter.1 e
+        nil end (add c.base c.total) c.top exchange.outgoing
+        (subst (λ b. Tiles (quadratic s.d) (λ letter. top_left c letter.name) (λ letter. letter.length) b c.top (add c.base c.total)) exchange.base (top_tiles (surface_order s surface) exchange_lawful))
+        (top_row_tiles s surface v some exchange.outgoing exchange.top_row)
+        (λ n letter f e h. (exchange.letters n f letter h e).length) n letter.0 f letter.1 e
 
     -- in the bottom row at the left end of the incoming side that this is glued to
     pub bottom_left_is : (n : ℕ) (f : Corner) → slice_get exchange.outgoing n ≡ Some f → bottom_left c n ≡ incoming_left s v (partner s.polygons f)

@@ -1,10 +1,10 @@
 -- Intervals that are laid one after another: rows whose intervals agree, are mapped, or are as long in turn. A library for crates to come.
-use Rattle.std.proofs.Common.{◌≡◌, ◌⊎◌, ℕ, zero, suc, Some, List, [], ◌∷◌, map, refl, sym, ap, ◌∙◌, subst, inl, inr}
+use Rattle.std.proofs.Common.{◌≡◌, ℕ, zero, suc, Some, List, [], ◌∷◌, map, refl, sym, ap, ◌∙◌, subst, inl, inr}
 use Rattle.std.specs.List.{slice_get}
 use Rattle.std.proofs.lemmas.Option.{same_Some}
 use Rattle.fs_lists.specs.Members.{IsIn}
 use Rattle.fs_ring.specs.Operations.{Operations}
-use Rattle.fs_ring.specs.OrderedRing.{IsOrderedRing, IsLess, IsAtMost}
+use Rattle.fs_ring.specs.OrderedRing.{IsOrderedRing, IsAtMost}
 use Rattle.fs_ring.proofs.Order as order
 use Rattle.fs_ring.proofs.RingLaws as ring_laws
 use Rattle.fs_quadratic.specs.Ring.{Quadratic, quadratic, IsPositive, add, total, zero as nil}

@@ -1,11 +1,10 @@
 -- The rows of a lawful component: the intervals of its letters, which are laid one after another in both rows. A library for crates to come.
-use Rattle.std.proofs.Common.{◌≡◌, ◌≢◌, ◌⊎◌, ℕ, ◌<◌, ◌==◌, if◌then◌else◌, true, false, eqb, List, [], ◌∷◌, map, length, IsPermutation, refl, sym, ap, ◌∙◌, subst, inl, inr, arith}
+use Rattle.std.proofs.Common.{◌≡◌, ◌≢◌, ℕ, ◌==◌, if◌then◌else◌, List, [], ◌∷◌, map, refl, sym, ap, ◌∙◌, subst, inl, inr}
 use Rattle.std.proofs.lemmas.Bool.Decides.{eqb_tells}
 use Rattle.std.proofs.lemmas.List.Sorted.{IsPermutation-sym}
-use Rattle.std.specs.List.{AllByRecursion}
 use Rattle.fs_lists.specs.Members.{IsIn, IsDistinct}
 use Rattle.fs_lists.proofs.Members.{All-member, in_map, in_map_cases}
-use Rattle.fs_ring.specs.OrderedRing.{IsOrderedRing, IsLess, IsAtMost}
+use Rattle.fs_ring.specs.OrderedRing.{IsOrderedRing}
 use Rattle.fs_quadratic.specs.Ring.{Quadratic, quadratic, IsPositive, add, total, zero as nil}
 use Rattle.fs_convex.proofs.Rows.{Tiles}
 use Rattle.fs_gluing.specs.Exchanges.{Letter, Component, IsLawful, names_of, length_of, length_before, top_left, bottom_left}
@@ -49,8 +48,7 @@ module _ {d : ℕ} (L : IsOrderedRing (quadratic d) (IsPositive d)) where
   row_tiles letters base [] p = L.add_zero base
   row_tiles letters base (name ∷ row) p =
       let len = length_of letters name in
-      let rest = row_tiles letters (add base len) row p.1 in
-      (
+      let rest = row_tiles letters (add base len) row p.1 in (
         ap (add base) (choose_same name name nil (add len (length_before letters name row)) refl) ∙ L.add_zero base,
         subst (Tiles (quadratic d) (λ other. add base (length_before letters other (name ∷ row))) (length_of letters) (add base len) row)
             (L.add_assoc base len (total (map (length_of letters) row)))

@@ -1,9 +1,9 @@
 -- The outgoing sides of a polygon and its incoming ones, from left to right: each kind is a chain, and its intervals fill the polygon's block. A library for crates to come.
-use Rattle.std.proofs.Common.{◌≡◌, ◌↔◌, ◌⊎◌, ℕ, suc, ◌+◌, ◌-◌, ◌<◌, ◌≤◌, List, length, refl, sym, ap, ◌∙◌, subst, inl, inr, arith}
+use Rattle.std.proofs.Common.{◌≡◌, ◌↔◌, ◌⊎◌, ℕ, suc, ◌+◌, ◌-◌, ◌<◌, ◌≤◌, List, length, sym, ap, ◌∙◌, subst, inl, inr, arith}
 use Rattle.fs_lists.specs.Members.{IsIn}
 use Rattle.fs_ring.specs.OrderedRing.{IsAtMost}
 use Rattle.fs_ring.proofs.Signs as signs
-use Rattle.fs_quadratic.specs.Ring.{Quadratic, quadratic, IsPositive, neg}
+use Rattle.fs_quadratic.specs.Ring.{quadratic, IsPositive, neg}
 use Rattle.fs_plane.specs.declared.corners.Corner.{Corner}
 use Rattle.fs_plane.specs.Vector.{PlaneVector}
 use Rattle.fs_convex.proofs.Rows.{Tiles, upward, downward, tiles_distinct}
@@ -90,7 +90,7 @@ module _ (s : GluedPolygons) (surface : IsTranslationSurface s) (v : PlaneVector
   lower = upward side (r + a) (h - a)
 
   -- a side that isn't parallel to the flow is in one of two runs
-  outgoing_number : (e : Corner) → e.polygon ≡ i → IsOutgoing s v e → (j : ℕ) × (p ≤ j) × (j < n) × (side (r + j) ≡ e)
+  pub outgoing_number : (e : Corner) → e.polygon ≡ i → IsOutgoing s v e → (j : ℕ) × (p ≤ j) × (j < n) × (side (r + j) ≡ e)
   outgoing_number e same o =
       let k = number_from s.polygons i (first_corner s surface i l) r e o.side same in
       elim (run_of k.0 a h p) [
@@ -104,7 +104,7 @@ module _ (s : GluedPolygons) (surface : IsTranslationSurface s) (v : PlaneVector
         ]
       ]
 
-  incoming_number : (e : Corner) → e.polygon ≡ i → IsIncoming s v e → (j : ℕ) × (a ≤ j) × (j < h) × (side (r + j) ≡ e)
+  pub incoming_number : (e : Corner) → e.polygon ≡ i → IsIncoming s v e → (j : ℕ) × (a ≤ j) × (j < h) × (side (r + j) ≡ e)
   incoming_number e same o =
       let k = number_from s.polygons i (first_corner s surface i l) r e o.side same in
       elim (run_of k.0 a h p) [

@@ -1,6 +1,5 @@
 -- The measures of the corners of one polygon: they go from the beginning of its block of positions to the beginning of the next. A library for crates to come.
-use Rattle.std.proofs.Common.{◌≡◌, ◌≢◌, ℕ, zero, suc, ◌+◌, ◌-◌, ◌<◌, ◌≤◌, Option, Some, None, List, [], ◌∷◌, ◌++◌, map, length, take, refl, sym, ap, ◌∙◌, subst, arith}
-use Rattle.std.proofs.lemmas.Option.{slice_get_within}
+use Rattle.std.proofs.Common.{◌≡◌, ◌≢◌, ℕ, suc, ◌+◌, ◌-◌, ◌<◌, ◌≤◌, Option, Some, None, List, [], ◌∷◌, ◌++◌, map, length, take, refl, sym, ap, ◌∙◌, subst, arith}
 use Rattle.std.proofs.lemmas.List.FromFn.{map-range_with_len_more}
 use Rattle.std.specs.List.{slice_get, range_with_len}
 use Rattle.std.specs.Option.{IsSome, option_and_then}
@@ -12,13 +11,13 @@ use Rattle.fs_lists.proofs.Items.{some_of_inside}
 use Rattle.fs_lists.proofs.All.{All-slice_get}
 use Rattle.fs_ring.specs.OrderedRing.{IsOrderedRing, IsAtMost}
 use Rattle.fs_ring.proofs.Signs as signs
-use Rattle.fs_ring.proofs.Solver.{expressions as E, identity, derived, ◌⊕◌, ◌⊖◌, ◌≐◌, ◌from◌, numeral}
+use Rattle.fs_ring.proofs.Solver.{identity, derived, ◌⊕◌, ◌⊖◌, ◌≐◌, ◌from◌, numeral}
 use Rattle.fs_quadratic.specs.Ring.{Quadratic, quadratic, IsPositive, add, sub, total, zero as nil}
 use Rattle.fs_quadratic.proofs.Laws.{quadratic_ring}
 use Rattle.fs_plane.specs.declared.corners.Corner.{Corner}
 use Rattle.fs_plane.specs.Vector.{PlaneVector, vector_zero, vector_total_from, cross}
 use Rattle.fs_convex.proofs.Runs.{IsFourRuns, four_runs}
-use Rattle.fs_convex.proofs.Measures.{sum_from, HasSteps, IsPositivePart, at_first_positive, at_first_negative, first_is_least, sum_of_positive}
+use Rattle.fs_convex.proofs.Measures.{sum_from, HasSteps, at_first_positive, at_first_negative, first_is_least, sum_of_positive}
 use Rattle.fs_paths.proofs.Developments.{put_polygon}
 use Rattle.fs_gluing.specs.CrossingMap.{positive_part, across, IsIncoming, IsOutgoing, width, block_start, to_right, leftmost, measure, outgoing_left}
 use Rattle.fs_gluing.specs.NextCorner.{side_count, corner_after}
@@ -65,9 +64,13 @@ module _ (s : GluedPolygons) (surface : IsTranslationSurface s) where
   runs_across v some i l =
       let laws = path_laws s surface in
       let inside = first_corner i l in
-      let runs = four_runs laws.order laws.test (put_polygon laws.order laws.test laws.glued (corner i 0) (laws.glued.position (corner i 0)) inside) some in
-      (runs.0, runs.1, runs.2, runs.3,
-      subst (λ (n : ℕ). IsFourRuns (quadratic s.d) (IsPositive s.d) (λ j. across s v (numbered s.polygons i j)) n runs.0 runs.1 runs.2 runs.3) (laws.counted (corner i 0)) runs.4)
+      let runs = four_runs laws.order laws.test (put_polygon laws.order laws.test laws.glued (corner i 0) (laws.glued.position (corner i 0)) inside) some in (
+        runs.0,
+        runs.1,
+        runs.2,
+        runs.3,
+        subst (λ (n : ℕ). IsFourRuns (quadratic s.d) (IsPositive s.d) (λ j. across s v (numbered s.polygons i j)) n runs.0 runs.1 runs.2 runs.3) (laws.counted (corner i 0)) runs.4,
+      )
 
   module _ (v : PlaneVector) (i : ℕ) (l : i < length s.polygons) {r a h p : ℕ} (runs : RunsAcross v i r a h p) where
     L : IsOrderedRing (quadratic s.d) (IsPositive s.d)
@@ -144,10 +147,10 @@ module _ (s : GluedPolygons) (surface : IsTranslationSurface s) where
         (λ k m u e f. ap (λ (j : ℕ). vector_of s.polygons (side j)) (let z : m ≡ k = omega arith in z) ∙ vector_numbered s.polygons i inside l k u f)
         ∙ ap (sum_from (quadratic s.d) (λ j. positive_part s.d (w j)) 0) (sym (count_vectors s.polygons i inside l)))
         ∙ sum_of_positive L steps runs {g = λ j. positive_part s.d (w j)}
-            (record {
-              of_positive = λ j q. positive_part_of_positive (surface_no_square s surface) (w j) q;
-              of_other = λ j q. positive_part_of_other (surface_no_square s surface) (w j) q;
-            }) (λ j. ap (positive_part s.d) (w_again j))
+        (record {
+          of_positive = λ j q. positive_part_of_positive (surface_no_square s surface) (w j) q;
+          of_other = λ j q. positive_part_of_other (surface_no_square s surface) (w j) q;
+        }) (λ j. ap (positive_part s.d) (w_again j))
 
     -- ---- measures
 
@@ -161,7 +164,7 @@ module _ (s : GluedPolygons) (surface : IsTranslationSurface s) where
     block_end =
         block_next s v i
         ∙ ap (add (block_start s v i))
-            (derived L.ring (x r ∷ width s v i ∷ x (r + h) ∷ []) (λ x w g. w ≐ g ⊖ x from (numeral 1, x ⊕ w ≐ g) ∷ []) refl (width_is, tt))
+        (derived L.ring (x r ∷ width s v i ∷ x (r + h) ∷ []) (λ x w g. w ≐ g ⊖ x from (numeral 1, x ⊕ w ≐ g) ∷ []) refl (width_is, tt))
 
     -- no corner is left of the beginning of its polygon's block
     pub from_block_start : (c : Corner) → HasSide s.polygons c → c.polygon ≡ i → AtMost (block_start s v i) (measure s v c)

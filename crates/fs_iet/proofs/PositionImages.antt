@@ -17,16 +17,12 @@ use Rattle.fs_quadratic.specs.Radicand.{IsRadicand}
 use Rattle.fs_quadratic.specs.Ring as ring
 use Rattle.fs_quadratic.specs.Ring.{Quadratic, quadratic, IsPositive, IsLess, add, sub, total, compare}
 use Rattle.fs_quadratic.specs.declared.steps.Place.{Place}
+use Rattle.fs_quadratic.proofs.StepChains.{step_value}
 use Rattle.fs_quadratic.proofs.Laws.{quadratic_ring, field_order}
 use Rattle.fs_quadratic.proofs.SquareRoot.{radicand_no_square}
 use Rattle.fs_quadratic.proofs.Signs.{less_iff_less}
 use Rattle.fs_gluing.specs.Exchanges.{Letter, Component, names_of, length_of}
 use Rattle.fs_iet.specs.Images.{Offset, letter_at, bottom_position, image}
-
--- the value of a step
-value_of_step : {A : Type 0} (n : ℕ) (test : Bool) (value x : A) → Ok x ≡ step n test value → x ≡ value
-value_of_step n true value x e = cc
-value_of_step n false value x e = cc
 
 -- a comparison that the test finds not to be less
 pub not_less : (r : Ordering) (test : Bool) → test ≡ (ordering_index r == 0) → test ≡ false → r ≢ Less
@@ -60,7 +56,7 @@ module _ (d : ℕ) (letters : List Letter) (y : Quadratic) where
     pub looks_next : (n : ℕ) (offset : Quadratic) (letter : Letter) (rest : Quadratic) → IsItem letters n letter → compare d offset letter.length ≢ Less
         → Ok rest ≡ checked_difference (1 + n) offset letter.length → LooksFrom n offset → LooksFrom (n + 1) rest
     looks_next n offset letter rest item is here h =
-        let value : rest ≡ sub offset letter.length = value_of_step (1 + n) _ (sub offset letter.length) rest here in
+        let value : rest ≡ sub offset letter.length = step_value (1 + n) _ (sub offset letter.length) rest (sym here) in
         let order = field_order radicand in
         record {
           is = by_letter n offset letter false item (test_other (compare d offset letter.length) is) h ∙ ap (λ r. r >>= (λ rest. letter_at d (n + 1) rest (drop (n + 1) letters))) (sym here);

@@ -1,6 +1,6 @@
 -- Lists with the same members, each once: they are as long, sum to the same, and each is a permutation of the other. A library for crates to come.
-use Rattle.std.proofs.Common.{◌≡◌, ◌≢◌, ◌⊎◌, eqb, false, ℕ, zero, suc, ◌<◌, ◌≤◌, ◌+◌, List, [], ◌∷◌, ◌++◌, map, length, get_or, Contains, IsPermutation, refl, sym, ap, ◌∙◌, subst, inl, inr, arith}
-use Rattle.std.proofs.lemmas.List.Sorted.{IsPermutation-refl, IsPermutation-cons, IsPermutation-trans, IsPermutation-sym, Contains-permutation, length_permutation, IsPermutation-keeps}
+use Rattle.std.proofs.Common.{◌≡◌, ◌≢◌, eqb, false, ℕ, suc, List, [], ◌∷◌, map, Contains, IsPermutation, refl, sym, ap, ◌∙◌, subst, inl, inr, arith}
+use Rattle.std.proofs.lemmas.List.Sorted.{IsPermutation-refl, IsPermutation-cons, IsPermutation-trans, Contains-permutation}
 use Rattle.std.proofs.lemmas.Map.Keys.{IsDistinct-IsPermutation}
 use Rattle.std.proofs.lemmas.Bool.{eq-eqb}
 use Rattle.std.proofs.lemmas.Bool.Decides.{eqb_tells}
@@ -8,7 +8,7 @@ use Rattle.std.specs.List as by_test
 use Rattle.std.specs.List.{AllByRecursion}
 use Rattle.fs_lists.specs.Members.{IsIn, IsDistinct}
 use Rattle.fs_lists.proofs.Members.{in_of_contains, All-member}
-use Rattle.fs_lists.proofs.Removal.{without, length-without, in_without, without_or, apart_without}
+use Rattle.fs_lists.proofs.Removal.{without, in_without, without_or, apart_without}
 use Rattle.fs_ring.proofs.RingLaws as ring_laws
 use Rattle.fs_quadratic.specs.Ring.{Quadratic, add, total}
 use Rattle.fs_quadratic.proofs.Laws.{quadratic_ring}

@@ -1,11 +1,10 @@
 -- A position in an interval, and the position as far right of the beginning of another interval of the same length. A library for crates to come.
-use Rattle.std.proofs.Common.{◌≡◌, [], ◌∷◌, refl, sym, ap, ◌∙◌, subst}
+use Rattle.std.proofs.Common.{◌≡◌, [], ◌∷◌, refl, sym, ap, ◌∙◌}
 use Rattle.fs_ring.specs.Operations.{Operations, sub}
 use Rattle.fs_ring.specs.OrderedRing.{IsOrderedRing, IsNonNegative, IsLess, IsAtMost}
 use Rattle.fs_ring.proofs.Order as order
-use Rattle.fs_ring.proofs.RingLaws as ring_laws
 use Rattle.fs_ring.proofs.Signs as signs
-use Rattle.fs_ring.proofs.Solver.{expressions as E, identity, derived, ◌⊕◌, ◌⊖◌, ◌≐◌, ◌from◌, numeral}
+use Rattle.fs_ring.proofs.Solver.{expressions as E, identity, ◌⊕◌, ◌⊖◌, ◌≐◌}
 
 -- how far right of t the position y is, from b on
 abbrev pub moved : {A : Type 0} (R : Operations A) → A → A → A → A

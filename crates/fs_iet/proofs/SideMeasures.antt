@@ -1,14 +1,14 @@
 -- The sides of a surface across a flow: widths of partners, and the measures of both ends of a side. A library for crates to come.
-use Rattle.std.proofs.Common.{◌≡◌, ◌≢◌, ℕ, List, [], ◌∷◌, refl, sym, ap, ◌∙◌, subst}
+use Rattle.std.proofs.Common.{◌≡◌, [], ◌∷◌, refl, sym, ap, ◌∙◌, subst}
 use Rattle.std.proofs.lemmas.Option.{unwrap_or-slice_get}
 use Rattle.fs_lists.proofs.All.{All-slice_get}
 use Rattle.fs_ring.specs.OrderedRing.{IsOrderedRing}
 use Rattle.fs_ring.proofs.Plane as plane
 use Rattle.fs_ring.proofs.RingLaws as ring_laws
 use Rattle.fs_ring.proofs.Signs as signs
-use Rattle.fs_ring.proofs.Solver.{expressions as E, identity, derived, ◌⊕◌, ◌⊖◌, ◌≐◌, ◌from◌, numeral}
+use Rattle.fs_ring.proofs.Solver.{expressions as E, identity, ◌⊕◌, ◌⊖◌, ◌≐◌}
 use Rattle.fs_quadratic.specs.Radicand.{IsNoSquare}
-use Rattle.fs_quadratic.specs.Ring.{Quadratic, quadratic, IsPositive, add, sub, neg}
+use Rattle.fs_quadratic.specs.Ring.{quadratic, IsPositive, add, sub, neg}
 use Rattle.fs_quadratic.proofs.SquareRoot.{radicand_no_square}
 use Rattle.fs_plane.specs.declared.corners.Corner.{Corner}
 use Rattle.fs_plane.specs.Vector.{PlaneVector, vector_add, cross}
@@ -53,7 +53,7 @@ module _ (s : GluedPolygons) (surface : IsTranslationSurface s) where
     measure_after e h =
         ap (λ t. add (block_start s v e.polygon) (sub t (leftmost s v e.polygon))) (to_right_after e h)
         ∙ identity surface_order.ring (block_start s v e.polygon ∷ to_right s v e ∷ leftmost s v e.polygon ∷ across s v e ∷ [])
-            (λ b t l w. b ⊕ ((t ⊕ w) ⊖ l) ≐ (b ⊕ (t ⊖ l)) ⊕ w) refl
+        (λ b t l w. b ⊕ ((t ⊕ w) ⊖ l) ≐ (b ⊕ (t ⊖ l)) ⊕ w) refl
 
     -- ---- widths
 

@@ -1,8 +1,7 @@
 -- The rows of a surface and a flow: there are such rows, and the intervals of the sides of each fill the positions. A library for crates to come.
-use Rattle.std.proofs.Common.{◌≡◌, ◌≢◌, ◌⊎◌, ℕ, suc, ◌+◌, ◌<◌, ◌≤◌, List, [], ◌∷◌, length, get_or, refl, sym, ap, ◌∙◌, subst, inl, inr, arith}
+use Rattle.std.proofs.Common.{◌≡◌, ◌≢◌, ℕ, suc, ◌+◌, ◌<◌, List, [], length, get_or, refl, sym, subst, arith}
 use Rattle.std.specs.List.{flat_map}
-use Rattle.fs_lists.specs.Members.{IsIn}
-use Rattle.fs_quadratic.specs.Ring.{Quadratic, quadratic, IsPositive, zero as nil}
+use Rattle.fs_quadratic.specs.Ring.{Quadratic, quadratic, zero as nil}
 use Rattle.fs_plane.specs.declared.corners.Corner.{Corner}
 use Rattle.fs_plane.specs.Vector.{PlaneVector, vector_zero}
 use Rattle.fs_convex.proofs.Rows.{Tiles}

@@ -1,8 +1,8 @@
 -- The sides of a row: which there are, and that they differ. A library for crates to come.
-use Rattle.std.proofs.Common.{◌≡◌, ◌≢◌, ◌⊎◌, ℕ, zero, suc, ◌+◌, ◌*◌, ◌<◌, ◌≤◌, Some, List, [], ◌∷◌, ◌++◌, length, get_or, sum_by, refl, sym, ap, ◌∙◌, subst, inl, inr, arith}
+use Rattle.std.proofs.Common.{◌≡◌, ◌≢◌, ℕ, zero, suc, ◌*◌, ◌<◌, ◌≤◌, List, [], ◌∷◌, ◌++◌, length, get_or, sum_by, refl, sym, ap, ◌∙◌, subst, inl, inr, arith}
 use Rattle.std.proofs.lemmas.Option.{slice_get_within}
 use Rattle.std.proofs.lemmas.List.{length-append}
-use Rattle.std.specs.List.{slice_get, flat_map}
+use Rattle.std.specs.List.{flat_map}
 use Rattle.fs_lists.specs.Members.{IsIn, IsDistinct}
 use Rattle.fs_lists.proofs.Members.{in_append_left, in_append_right, in_append_cases, apart_append}
 use Rattle.fs_lists.proofs.Removal.{at_most_partners}
@@ -11,7 +11,6 @@ use Rattle.fs_plane.specs.Vector.{PlaneVector, vector_zero}
 use Rattle.fs_convex.proofs.Rows.{tiles_distinct}
 use Rattle.fs_gluing.specs.CrossingMap.{IsIncoming, IsOutgoing, side_width, block_start, outgoing_left, incoming_left}
 use Rattle.fs_gluing.specs.Exchanges.{AreChainsIn, IsTopRow, IsBottomRow}
-use Rattle.fs_gluing.specs.NextCorner.{corner_after, side_before}
 use Rattle.fs_gluing.specs.Polygons.{HasSide, all_sides}
 use Rattle.fs_gluing.specs.Surface.{GluedPolygons, IsTranslationSurface}
 use Rattle.fs_gluing.specs.SurfaceSides.{partner}

@@ -47,7 +47,7 @@ module _ (s : GluedPolygons) (v : PlaneVector) where
     pub is : checked_returns s v sides ≡ checked_returns s v (drop i sides)
 
   -- the test of a side
-  test_outgoing : (f : Corner) → IsOutgoing s v f → is_lt (sign s.d (across s v f)) ≡ true
+  pub test_outgoing : (f : Corner) → IsOutgoing s v f → is_lt (sign s.d (across s v f)) ≡ true
   test_outgoing f h = ap is_lt (sign-negative s.d (across s v f) h.leaves)
 
   test_other : IsNoSquare s.d → (f : Corner) → HasSide s.polygons f → ¬ IsOutgoing s v f → is_lt (sign s.d (across s v f)) ≡ false

@@ -1,5 +1,5 @@
 -- A lawful component takes its positions to its positions, one to one and onto, each by one letter. A library for crates to come.
-use Rattle.std.proofs.Common.{◌≡◌, ◌⊎◌, ℕ, List, [], ◌∷◌, map, refl, sym, ap, ◌∙◌, subst, inl, inr}
+use Rattle.std.proofs.Common.{◌≡◌, ℕ, List, [], ◌∷◌, refl, sym, ap, ◌∙◌, subst, inl, inr}
 use Rattle.fs_lists.specs.Members.{IsIn, IsDistinct}
 use Rattle.fs_lists.proofs.Members.{in_map, in_map_cases}
 use Rattle.fs_ring.specs.OrderedRing.{IsOrderedRing, IsNonNegative, IsAtMost}

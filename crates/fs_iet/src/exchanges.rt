@@ -68,6 +68,8 @@ pub fn find_exchange(alloc: Global, surface: &Surface, v: V2) -> Result<Exchange
         ↔ ((letter : exchanges.Letter) × Takes x.d x.component letter y z × (letter.back ≡ h) × (letter.corner ≡ partner surface.now.polygons f))) }
     ensures map { IsMapOfPositions surface.now v }
 {
+    // The contract of this call says what holds of the surface.
+    let _ = surface.field();
     let sides = list_sides(alloc, surface)?;
     let total = match find_total(surface, v, sides.as_slice()) {
         Ok(total) => total,
