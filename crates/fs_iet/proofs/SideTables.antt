@@ -71,26 +71,26 @@ module _ {V X : Type 0} (items : V → List X) (rows : List V) where
     ]
 
   -- one more row: there is an item for each side of the polygons so far
-  pub rows_more : {Y : Type 0} (polygons : List (List Y)) (row : V) (i n : ℕ) → length rows ≡ i → i < length polygons → IfSome (slice_get polygons i) (λ polygon. n ≡ length polygon) → length (items row) ≡ n
-      → ((c : Corner) → c.polygon < i → HasSide polygons c → HasSide (map items rows) c) → (c : Corner) → c.polygon < i + 1 → HasSide polygons c → HasSide (map items (rows ++ row ∷ [])) c
-  rows_more polygons row i n as_many inside counted long before c below has = go (cases_eq c.polygon i)
+  pub rows_more : {Y : Type 0} (polygons : List (List Y)) (row : V) (more : List V) (i n : ℕ) → more ≡ rows ++ row ∷ [] → length rows ≡ i → i < length polygons → IfSome (slice_get polygons i) (λ polygon. n ≡ length polygon) → length (items row) ≡ n
+      → ((c : Corner) → c.polygon < i → HasSide polygons c → HasSide (map items rows) c) → (c : Corner) → c.polygon < i + 1 → HasSide polygons c → HasSide (map items more) c
+  rows_more polygons row more i n added as_many inside counted long before c below has = go (cases_eq c.polygon i)
     where
-      whole : map items (rows ++ row ∷ []) ≡ map items rows ++ items row ∷ []
-      whole = map-append items rows (row ∷ [])
+      whole : map items more ≡ map items rows ++ items row ∷ []
+      whole = ap (map items) added ∙ map-append items rows (row ∷ [])
 
       rows_long : length (map items rows) ≡ i
       rows_long = length-map rows items ∙ as_many
 
-      go : (c.polygon ≡ i) ⊎ (c.polygon ≡ i → ⊥) → HasSide (map items (rows ++ row ∷ [])) c
+      go : (c.polygon ≡ i) ⊎ (c.polygon ≡ i → ⊥) → HasSide (map items more) c
       go (inl same) =
           let there = in_polygon polygons c has in
           let side = there.inside in
           let count : n ≡ length there.polygon = value_holds (slice_get polygons i) (λ polygon. n ≡ length polygon) there.polygon (ap (slice_get polygons) (sym same) ∙ there.is) counted in
-          let read : slice_get (map items (rows ++ row ∷ [])) c.polygon ≡ Some (items row)
+          let read : slice_get (map items more) c.polygon ≡ Some (items row)
           = ap (λ t. slice_get t c.polygon) whole ∙ ap (slice_get (map items rows ++ items row ∷ [])) (same ∙ sym rows_long) ∙ slice_get-last (map items rows) (items row) in
           subst IsSome (sym (ap (in_row c.side) read)) (some_of_inside (items row) c.side (omega arith))
       go (inr other) =
           let less : c.polygon < i = omega arith in
-          let read : slice_get (map items (rows ++ row ∷ [])) c.polygon ≡ slice_get (map items rows) c.polygon
+          let read : slice_get (map items more) c.polygon ≡ slice_get (map items rows) c.polygon
           = ap (λ t. slice_get t c.polygon) whole ∙ slice_get-before (map items rows) (items row) c.polygon (let l = rows_long in omega arith) in
           subst IsSome (sym (ap (in_row c.side) read)) (before c less has)

@@ -1,10 +1,9 @@
 -- Each incoming side is given the number of its partner.
-use Rattle.std.proofs.Common.{◌≡◌, ◌∷◌, [], ◌++◌, Some, List, ℕ, map, take, refl, sym, ap, ◌∙◌, subst}
+use Rattle.std.proofs.Common.{Some, map, refl, sym, ap, ◌∙◌, subst}
 use Rattle.std.specs.List.{slice_get}
 use Rattle.fs_lists.specs.Members.{IsIn}
 use Rattle.fs_lists.proofs.Items.{item_of}
 use Rattle.fs_plane.specs.declared.corners.Corner.{Corner}
-use Rattle.fs_gluing.specs.Polygons.{HasSide, at_side}
 use Rattle.fs_gluing.specs.SurfaceSides.{partner}
 use Rattle.fs_iet.proofs.BottomNames.{has_number, side_of_number, names_more}
 use Rattle.fs_iet.proofs.Items.{item_holds}

@@ -1,8 +1,7 @@
 -- Each side is given its number.
-use Rattle.std.proofs.Common.{◌≡◌, ◌<◌, ℕ, Some, refl, sym, ap, ◌∙◌, subst, arith}
+use Rattle.std.proofs.Common.{refl, arith}
 use Rattle.std.proofs.lemmas.Option.{slice_get_within}
-use Rattle.fs_plane.specs.declared.corners.Corner.{Corner}
-use Rattle.fs_gluing.specs.Polygons.{at_side, HasSide}
+use Rattle.fs_gluing.specs.Polygons.{HasSide}
 use Rattle.fs_lists.proofs.Items.{item_of}
 use Rattle.fs_iet.proofs.BottomNames.{numbered_more}
 use Rattle.fs_iet.proofs.Items.{item_holds}

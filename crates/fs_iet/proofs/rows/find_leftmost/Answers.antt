@@ -1,13 +1,7 @@
 -- The first side that is in the row while the one to its left isn't is the leftmost one, and there is one.
-use Rattle.std.proofs.Common.{◌≡◌, ◌<◌, ◌≤◌, ℕ, List, Option, Some, None, true, false, ap, ◌∙◌, subst, sym, arith}
-use Rattle.std.specs.List.{slice_get}
-use Rattle.std.specs.Option.{IfSome}
-use Rattle.fs_lists.proofs.Items.{item_inside, value_holds}
+use Rattle.std.proofs.Common.{◌≡◌, true, ap, ◌∙◌, subst, sym, arith}
 use borrow.Author.Count.{below_more}
-use Rattle.fs_plane.specs.declared.corners.Corner.{Corner}
-use Rattle.fs_gluing.specs.declared.surfaces.Side.{Side}
-use Rattle.fs_gluing.specs.NextCorner.{length_or_0, side_count}
-use Rattle.fs_iet.specs.Rows.{IsInRow, IsLeftmost, to_left_in}
+use Rattle.fs_iet.specs.Rows.{IsInRow, to_left_in}
 use Rattle.fs_iet.proofs.PolygonRows.{leftmost_exists, read_sides}
 use Rattle.fs_iet.proofs.rows.find_leftmost.Goals as goal
 use Rattle.fs_iet.proofs.rows.find_leftmost.Goals.{else-is_in_row-via-then-is_in_row+else-not-is_in_row, else-is_in_row-via-else-is_in_row}

@@ -1,7 +1,6 @@
 -- The sides are added from left to right.
-use Rattle.std.proofs.Common.{◌≡◌, ◌++◌, ◌∷◌, [], ◌+◌, ◌-◌, ◌<◌, List, ℕ, suc, true, refl, ap, ◌∙◌, subst, sym, arith, append_assoc, length-append, length}
+use Rattle.std.proofs.Common.{◌≡◌, ◌++◌, ◌∷◌, [], ◌+◌, ◌-◌, ◌<◌, ℕ, suc, true, ap, ◌∙◌, subst, sym, arith, append_assoc, length-append, length}
 use borrow.Author.Count.{below_more}
-use Rattle.fs_plane.specs.declared.corners.Corner.{Corner}
 use Rattle.fs_cycles.specs.Cycles.{iterate}
 use Rattle.fs_cycles.proofs.Iterates.{iterate_after}
 use Rattle.fs_gluing.specs.NextCorner.{side_count}

@@ -1,5 +1,5 @@
 -- The return vectors of the outgoing sides, one after another.
-use Rattle.std.proofs.Common.{◌≡◌, true, sym, ◌∙◌, ap, refl, Err}
+use Rattle.std.proofs.Common.{◌≡◌, true, sym, ◌∙◌, refl, Err}
 use Rattle.fs_lists.proofs.Items.{item_of}
 use Rattle.fs_plane.specs.declared.sites.Site.TheVariants as sites
 use Rattle.fs_gluing.specs.Polygons.{HasSide}

@@ -1,5 +1,5 @@
 -- The bottom row is as long as the top row.
-use Rattle.std.proofs.Common.{◌≡◌, List, ℕ, sym, subst, ap, ◌∙◌, length, arith}
+use Rattle.std.proofs.Common.{◌≡◌, subst, ap, ◌∙◌, length, arith}
 use Rattle.fs_iet.specs.ExchangeValue.{ExchangeValue, IsExchangeValue}
 use Rattle.fs_iet.proofs.NumbersInRows.{rows_long, bottom_read}
 use Rattle.fs_iet.proofs.exchanges.Exchange.bottom.Goals as goal

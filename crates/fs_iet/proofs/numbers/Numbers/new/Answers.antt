@@ -1,8 +1,6 @@
 -- A row of zeros for each polygon.
-use Rattle.std.proofs.Common.{◌≡◌, ◌∷◌, [], ◌+◌, ◌<◌, map, sym, ap, ◌∙◌, refl, subst, arith, length, length-append}
+use Rattle.std.proofs.Common.{◌∷◌, [], ◌<◌, ap, ◌∙◌, arith, length, length-append}
 use Rattle.std.proofs.lemmas.List.{length-replicate}
-use Rattle.fs_plane.specs.declared.corners.Corner.{Corner}
-use Rattle.fs_gluing.specs.Polygons.{at_side, HasSide}
 use Rattle.fs_iet.proofs.SideTables.{rows_more}
 use Rattle.fs_iet.proofs.SidesOfRows.{polygon_exists}
 use Rattle.fs_iet.proofs.numbers.Numbers.new.Goals as goal
@@ -13,8 +11,9 @@ loop-i-preserved c =
     let below : c.loop-i.i < length c.args.surface.now.polygons = let t = c.loop-i-test.true in let p = c.polygons-i-end.ensures.polygons in omega arith in
     record {
       as_many = let l = ap length whole ∙ length-append c.loop-i.rows.items (c.in_ok-vec.field-0 ∷ []) in let m = c.loop-i.invariant.as_many in omega arith;
-      there = subst (λ rows. (e : Corner) → e.polygon < c.loop-i.i + 1 → HasSide c.args.surface.now.polygons e → HasSide (map (λ row. row.items) rows) e) (sym whole)
-          (rows_more (λ row. row.items) c.loop-i.rows.items c.args.surface.now.polygons c.in_ok-vec.field-0 c.loop-i.i c.sides.result c.loop-i.invariant.as_many below c.sides.ensures (ap length (c.in_ok-vec.ensures.items_if_clones_equal (λ x e. e)) ∙ length-replicate c.sides.result 0) c.loop-i.invariant.there);
+      there =
+          rows_more (λ row. row.items) c.loop-i.rows.items c.args.surface.now.polygons c.in_ok-vec.field-0 c.push.new.self.items c.loop-i.i c.sides.result whole c.loop-i.invariant.as_many below c.sides.ensures
+          (ap length (c.in_ok-vec.ensures.items_if_clones_equal (λ x e. e)) ∙ length-replicate c.sides.result 0) c.loop-i.invariant.there;
     }
 
 pub returns : goal.returns

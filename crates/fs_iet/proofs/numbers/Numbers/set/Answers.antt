@@ -1,9 +1,6 @@
 -- One number is written.
-use Rattle.std.proofs.Common.{◌≡◌, ◌⊎◌, Vec, Some, ℕ, inl, inr, sym, ap, ◌∙◌, refl, subst}
-use Rattle.std.specs.Vec.{with_item}
-use Rattle.std.specs.Option.{IsSome}
+use Rattle.std.proofs.Common.{sym, ap, ◌∙◌, refl, subst}
 use Rattle.fs_gluing.specs.Polygons.{at_side, HasSide}
-use Rattle.fs_gluing.proofs.Base.Equality.{same_corner}
 use Rattle.fs_iet.proofs.SideTables.{written_here, written_others, written_sides}
 use Rattle.fs_iet.proofs.numbers.Numbers.set.Goals as goal
 
