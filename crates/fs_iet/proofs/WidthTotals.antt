@@ -82,9 +82,9 @@ module _ (s : GluedPolygons) (v : PlaneVector) where
   width_of_sides i polygon there =
       let vector_at : (k : ℕ) (side : Side) → slice_get polygon k ≡ Some side → vector_of s.polygons (corner i (0 + k)) ≡ side.vector
       = λ k side e.
-          ap (λ (n : ℕ). vector_of s.polygons (corner i n)) (let z : 0 + k ≡ k = omega arith in z)
-          ∙ ap (λ o. vector_or (option_and_then (λ row. slice_get row k) o)) there
-          ∙ ap vector_or e in
+      ap (λ (n : ℕ). vector_of s.polygons (corner i n)) (let z : 0 + k ≡ k = omega arith in z)
+      ∙ ap (λ o. vector_or (option_and_then (λ row. slice_get row k) o)) there
+      ∙ ap vector_or e in
       ap total
       (map-map incoming_width (corner i) (range_with_len 0 (length polygon))
       ∙ map_by_index (λ j. incoming_width (corner i j)) (λ side. positive_part s.d (cross s.d side.vector v)) 0 polygon

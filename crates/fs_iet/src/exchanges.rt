@@ -194,7 +194,12 @@ impl Exchange {
         ensures crossing { (s : GluedPolygons) (v : PlaneVector) → IsTranslationSurface s → v ≢ vector_zero → s.d ≡ self.now.d → IsExchange s v self.now.component
             → IfOk result (λ z. (h : PlaneVector) × (f : Corner) × Crosses s v y z h f) }
     {
-        find_image(self.field, self.letters.as_slice(), self.bottom.as_slice(), y)
+        find_image(
+            self.field,
+            self.letters.as_slice(),
+            self.bottom.as_slice(),
+            y,
+        )
     }
 
     // Letter n.

@@ -33,12 +33,7 @@ impl Model for Offset {
 }
 
 // The image of y, which is at least 0 and less than the sum of the lengths.
-pub fn find_image(
-    field: Field,
-    letters: &[Letter],
-    bottom: &[u32],
-    y: Elem,
-) -> Result<Elem, Place>
+pub fn find_image(field: Field, letters: &[Letter], bottom: &[u32], y: Elem) -> Result<Elem, Place>
     requires from_zero { IsAtMost (quadratic field.d) (IsPositive field.d) zero y }
     requires below_total { IsLess field.d y (total (map (λ letter. letter.length) letters.now)) }
     requires named { names_of letters.now ≡ range_with_len 0 (length letters.now) }

@@ -62,7 +62,11 @@ impl Numbers {
 }
 
 // The number of each of these sides: its place among them.
-fn find_numbers(alloc: Global, surface: &Surface, outgoing: &[Corner]) -> Result<Numbers, AllocError>
+fn find_numbers(
+    alloc: Global,
+    surface: &Surface,
+    outgoing: &[Corner],
+) -> Result<Numbers, AllocError>
     requires there { AllByRecursion (HasSide surface.now.polygons) outgoing.now }
     requires once { IsDistinct outgoing.now }
     requires few { length outgoing.now ≤ most_letters }

@@ -26,11 +26,7 @@ pub fn list_sides(alloc: Global, surface: &Surface) -> Result<Sequence<Corner>, 
 }
 
 // Adds the sides of polygon i.
-fn push_sides(
-    surface: &Surface,
-    i: u16,
-    sides: &mut Sequence<Corner>,
-) -> Result<(), AllocError>
+fn push_sides(surface: &Surface, i: u16, sides: &mut Sequence<Corner>) -> Result<(), AllocError>
     requires { i < length surface.now.polygons }
     ensures { OnOk result (sides.new ≡ sides.old ++ sides_between i 0 (side_count surface.now.polygons i)) }
 {

@@ -19,6 +19,6 @@ loop-j-preserved c =
     ])
 
 pub unreachable-requires : goal.unreachable-requires
-unreachable-requires c = 
+unreachable-requires c =
     leftmost_exists c.requires.surface c.requires.direction c.args.i c.requires.there c.args.row
     (λ k l. let n = read_sides c.args.surface.now.polygons c.args.i c.sides-j-end.result c.requires.there c.sides-j-end.ensures in let m = c.loop-j-test.false in c.loop-j.invariant k (omega arith))
