@@ -1,5 +1,5 @@
 -- What `find_exchange` returns, from what its calls return: the exchange, or the first site.
-use Rattle.std.proofs.Common.{◌≡◌, true, Bool, Result, Ok, Err, IsOk, List, [], ◌∷◌, inl, inr, refl, sym, ap, ◌∙◌, subst}
+use Rattle.std.proofs.Common.{◌≡◌, true, Result, Ok, Err, IsOk, List, [], ◌∷◌, inl, inr, refl, sym, ap, ◌∙◌, subst}
 use Rattle.std.specs.List.{AllByRecursion}
 use Rattle.fs_lists.specs.Members.{IsIn}
 use Rattle.fs_quadratic.specs.Ring as ring
