@@ -1,5 +1,5 @@
 -- The exchange of a surface and a direction as it is computed, and the first site where this overflows.
-use Rattle.std.specs.Prelude.{◌≡◌, ℕ, if◌then◌else◌, Bool, true, Result, Ok, Err, IsOk, List, [], ◌∷◌}
+use Rattle.std.specs.Prelude.{◌≡◌, if◌then◌else◌, Bool, true, Result, Ok, Err, IsOk, List, [], ◌∷◌}
 use Rattle.std.specs.Ordering.{is_gt, is_lt}
 use Rattle.fs_quadratic.specs.Checked.{◌>>=◌, checked_sum}
 use Rattle.fs_quadratic.specs.Ring.{Quadratic, zero, sign}
@@ -16,6 +16,13 @@ use Rattle.fs_gluing.specs.NextCorner.{corner_after}
 use Rattle.fs_gluing.specs.Polygons.{all_sides}
 use Rattle.fs_gluing.specs.Surface.{GluedPolygons}
 use Rattle.fs_gluing.specs.SurfaceSides.{partner, vector_of}
+
+-- the return vector of an outgoing side's letter, by its formula
+abbrev pub checked_return : GluedPolygons → Corner → Result PlaneVector Place
+checked_return s f =
+    let end = corner_after s.polygons f in
+    let other = partner s.polygons f in
+    vector_difference_after 0 (position_in s end.polygon end.side) (position_in s other.polygon other.side)
 
 module _ (s : GluedPolygons) (v : PlaneVector) where
   -- the sum of widths after side e: places 1 to 3 are those of its width, place 4 that of the sum, to which an incoming side is added
@@ -38,13 +45,6 @@ module _ (s : GluedPolygons) (v : PlaneVector) where
   abbrev pub checked_total : Result Quadratic Site
   checked_total = sum_after zero (all_sides s.polygons)
 
-  -- the return vector of an outgoing side's letter, by its formula
-  abbrev pub checked_return : Corner → Result PlaneVector Place
-  checked_return f =
-      let end = corner_after s.polygons f in
-      let other = partner s.polygons f in
-      vector_difference_after 0 (position_in s end.polygon end.side) (position_in s other.polygon other.side)
-
   -- those of the outgoing sides among these, one after another, or the first site: whether all fit
   abbrev pub returned : Corner → Result PlaneVector Place → Result Bool Site → Result Bool Site
   returned f (Ok back) rest = rest
@@ -52,7 +52,7 @@ module _ (s : GluedPolygons) (v : PlaneVector) where
 
   abbrev pub checked_returns : List Corner → Result Bool Site
   checked_returns [] = Ok true
-  checked_returns (f ∷ sides) = if is_lt (sign s.d (across s v f)) then returned f (checked_return f) (checked_returns sides) else checked_returns sides
+  checked_returns (f ∷ sides) = if is_lt (sign s.d (across s v f)) then returned f (checked_return s f) (checked_returns sides) else checked_returns sides
 
   -- the exchange, or the first site: all widths come before all return vectors
   pub data GivesExchange : Result Component Site → Type 0 where

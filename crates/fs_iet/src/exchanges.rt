@@ -6,12 +6,13 @@ ghost use Rattle.fs_plane.specs.declared.corners.Corner.{Corner};
 ghost use Rattle.fs_plane.specs.declared.sites.Site.{Site};
 ghost use Rattle.fs_plane.specs.Vector.{PlaneVector, vector_zero};
 ghost use Rattle.fs_quadratic.specs.Ring.{Quadratic};
-ghost use Rattle.fs_gluing.specs.CrossingMap.{Crosses, IsMapOfPositions};
+ghost use Rattle.fs_gluing.specs.CrossingMap.{Crosses, IsMapOfPositions, block_start};
 ghost use Rattle.fs_gluing.specs.Exchanges as exchanges;
-ghost use Rattle.fs_gluing.specs.Exchanges.{Component, Takes};
+ghost use Rattle.fs_gluing.specs.Exchanges.{Component, IsExchange, Takes};
 ghost use Rattle.fs_gluing.specs.SurfaceSides.{partner};
 ghost use Rattle.fs_iet.specs.ExchangeSites.{GivesExchange};
 ghost use Rattle.fs_iet.specs.ExchangeValue.{ReturnsExchange};
+ghost use Rattle.fs_iet.specs.Rows.{HaveReturns, HaveWidths};
 
 use crate::images::find_image;
 use crate::letters::{Letter, Tag, find_letters};
@@ -67,6 +68,8 @@ pub fn find_exchange(alloc: Global, surface: &Surface, v: V2) -> Result<Exchange
         ↔ ((letter : exchanges.Letter) × Takes x.d x.component letter y z × (letter.back ≡ h) × (letter.corner ≡ partner surface.now.polygons f))) }
     ensures map { IsMapOfPositions surface.now v }
 {
+    // The contract of this call says what holds of the surface.
+    let _ = surface.field();
     let sides = list_sides(alloc, surface)?;
     let total = match find_total(surface, v, sides.as_slice()) {
         Ok(total) => total,
@@ -79,13 +82,21 @@ pub fn find_exchange(alloc: Global, surface: &Surface, v: V2) -> Result<Exchange
 }
 
 // The exchange, where nothing overflows.
-fn build(alloc: Global, surface: &Surface, v: V2, total: Elem) -> Result<Exchange, AllocError> {
+fn build(alloc: Global, surface: &Surface, v: V2, total: Elem) -> Result<Exchange, AllocError>
+    requires direction { v ≢ vector_zero }
+    requires widths { HaveWidths surface.now v }
+    requires returns { HaveReturns surface.now v }
+    requires total { total ≡ block_start surface.now v (length surface.now.polygons) }
+    ensures field { IfOk result (λ x. x.d ≡ surface.now.d) }
+    ensures exchange { IfOk result (λ x. IsExchange surface.now v x.component) }
+{
+    let field = surface.field();
     let outgoing = find_row(alloc, surface, v, Row::Top)?;
     let incoming = find_row(alloc, surface, v, Row::Bottom)?;
     let letters = find_letters(alloc, surface, v, outgoing.as_slice())?;
     let bottom = find_bottom(alloc, surface, outgoing.as_slice(), incoming.as_slice())?;
     Ok(Exchange {
-        field: surface.field(),
+        field,
         total,
         letters,
         bottom: Sequence::from_vec(bottom),
@@ -95,7 +106,6 @@ fn build(alloc: Global, surface: &Surface, v: V2, total: Elem) -> Result<Exchang
 impl Exchange {
     ghost use Rattle.fs_quadratic.specs.Ring.{zero, IsPositive, IsLess, quadratic};
     ghost use Rattle.fs_ring.specs.OrderedRing.{IsAtMost};
-    ghost use Rattle.fs_gluing.specs.Exchanges.{IsExchange};
     ghost use Rattle.fs_gluing.specs.Surface.{GluedPolygons, IsTranslationSurface};
     ghost use Rattle.fs_iet.specs.Images.{image};
     ghost use Rattle.fs_iet.specs.ExchangeValue.{IsExchangeValue};
@@ -184,7 +194,12 @@ impl Exchange {
         ensures crossing { (s : GluedPolygons) (v : PlaneVector) → IsTranslationSurface s → v ≢ vector_zero → s.d ≡ self.now.d → IsExchange s v self.now.component
             → IfOk result (λ z. (h : PlaneVector) × (f : Corner) × Crosses s v y z h f) }
     {
-        find_image(self.field, self.letters.as_slice(), self.bottom.as_slice(), y)
+        find_image(
+            self.field,
+            self.letters.as_slice(),
+            self.bottom.as_slice(),
+            y,
+        )
     }
 
     // Letter n.

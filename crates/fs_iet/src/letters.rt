@@ -3,12 +3,13 @@
 ghost use Rattle.std.specs.Prelude.{◌≡◌, ◌+◌, ◌<◌, ◌≤◌, ◌^◌, ℕ, Some, length, IfOk};
 ghost use Rattle.std.specs.List.{slice_get, AllByRecursion};
 ghost use Rattle.fs_plane.specs.declared.corners.Corner.{Corner};
-ghost use Rattle.fs_gluing.specs.CrossingMap.{IsOutgoing};
+ghost use Rattle.fs_gluing.specs.CrossingMap.{IsOutgoing, gluing_vector};
+ghost use Rattle.fs_gluing.specs.Exchanges as exchanges;
 ghost use Rattle.fs_gluing.specs.Exchanges.{IsLetterOf};
 ghost use Rattle.fs_iet.specs.ExchangeValue.{most_letters};
 ghost use Rattle.fs_iet.specs.Rows.{HaveWidths, HaveReturns};
 
-use crate::sites::find_return;
+use crate::sites::{find_return, partner_of, position_of};
 use crate::widths::{is_incoming, is_outgoing, side_width};
 use fs_gluing::{Sequence, Surface};
 use fs_plane::{Corner, V2};
@@ -69,6 +70,7 @@ pub fn find_letters(
     requires widths { HaveWidths surface.now v }
     requires returns { HaveReturns surface.now v }
     ensures as_many { IfOk result (λ letters. length letters ≡ length row.now) }
+    ensures letters { IfOk result (λ letters. (n : ℕ) (f : Corner) (letter : exchanges.Letter) → slice_get row.now n ≡ Some f → slice_get letters n ≡ Some letter → IsLetterOf surface.now v f n letter) }
 {
     let mut letters = Sequence::new(alloc);
     for (n, &f) in row.iter().enumerate() {
@@ -84,7 +86,7 @@ fn letter_of(surface: &Surface, v: V2, f: Corner, name: u32) -> Letter
     requires returns { HaveReturns surface.now v }
     ensures { IsLetterOf surface.now v f name result }
 {
-    let partner = surface.partner(f);
+    let partner = partner_of(surface, f);
     let after = surface.corner_after(f);
     Letter {
         name,
@@ -92,11 +94,11 @@ fn letter_of(surface: &Surface, v: V2, f: Corner, name: u32) -> Letter
         back: return_of(surface, v, f),
         corner: partner,
         start: Tag {
-            v: surface.place(partner).neg(),
+            v: position_of(surface, partner).neg(),
             real: is_incoming(surface, v, surface.side_before(partner)),
         },
         end: Tag {
-            v: surface.place(after),
+            v: position_of(surface, after),
             real: is_outgoing(surface, v, after),
         },
     }
@@ -106,6 +108,7 @@ fn letter_of(surface: &Surface, v: V2, f: Corner, name: u32) -> Letter
 fn return_of(surface: &Surface, v: V2, f: Corner) -> V2
     requires outgoing { IsOutgoing surface.now v f }
     requires returns { HaveReturns surface.now v }
+    ensures { result ≡ gluing_vector surface.now v f }
 {
     match find_return(surface, f) {
         Ok(back) => back,

@@ -1,10 +1,11 @@
 // The rows of an exchange: its sides from left to right.
 
-ghost use Rattle.std.specs.Prelude.{◌≡◌, ◌↔◌, ◌<◌, ◌++◌, IsTrue, length, IfOk, OnOk};
+ghost use Rattle.std.specs.Prelude.{◌≡◌, ◌≢◌, ◌↔◌, ◌<◌, ◌++◌, List, IsTrue, length, IfOk, OnOk};
 ghost use Rattle.fs_plane.specs.declared.corners.Corner.{Corner};
 ghost use Rattle.fs_gluing.specs.Exchanges.{AreChainsIn, IsChainIn};
 ghost use Rattle.fs_gluing.specs.Polygons.{HasSide};
-ghost use Rattle.fs_iet.specs.Rows.{HaveWidths, IsInRow, to_right_in, to_left_in};
+ghost use Rattle.fs_gluing.specs.Surface.{IsTranslationSurface};
+ghost use Rattle.fs_iet.specs.Rows.{HaveWidths, IsInRow, IsLeftmost, to_right_in, to_left_in};
 ghost use Rattle.fs_plane.specs.Vector.{vector_zero};
 
 use crate::widths::{is_incoming, is_outgoing};
@@ -28,7 +29,7 @@ pub fn find_row(
 ) -> Result<Sequence<Corner>, AllocError>
     requires widths { HaveWidths surface.now v }
     requires direction { v ≢ vector_zero }
-    ensures { IfOk result (λ sides. AreChainsIn (to_right_in surface.now v row) (IsInRow surface.now v row) (length surface.now.polygons) sides) }
+    ensures { IfOk result (λ sides. AreChainsIn (to_right_in surface.now row) (IsInRow surface.now v row) (length surface.now.polygons) sides) }
 {
     let mut sides = Sequence::new(alloc);
     for i in 0..surface.polygons() {
@@ -45,9 +46,11 @@ fn push_chain(
     i: u16,
     sides: &mut Sequence<Corner>,
 ) -> Result<(), AllocError>
+    requires surface { IsTranslationSurface surface.now }
     requires there { i < length surface.now.polygons }
     requires widths { HaveWidths surface.now v }
     requires direction { v ≢ vector_zero }
+    ensures { OnOk result ((chain : List Corner) × (sides.new ≡ sides.old ++ chain) × IsChainIn (to_right_in surface.now row) (IsInRow surface.now v row) i chain) }
 {
     let mut e = find_leftmost(surface, v, row, i);
     while is_in_row(surface, v, row, e) {
@@ -59,9 +62,11 @@ fn push_chain(
 
 // The leftmost side of polygon i in a row: the one to its left isn't in the row.
 fn find_leftmost(surface: &Surface, v: V2, row: Row, i: u16) -> Corner
+    requires surface { IsTranslationSurface surface.now }
     requires there { i < length surface.now.polygons }
     requires widths { HaveWidths surface.now v }
     requires direction { v ≢ vector_zero }
+    ensures { IsLeftmost surface.now v row i result }
 {
     for j in 0..surface.sides(i) {
         let e = Corner::new(i, j);
@@ -89,6 +94,7 @@ fn is_in_row(surface: &Surface, v: V2, row: Row, e: Corner) -> bool
 // The next side to the right in a row: the top one goes on clockwise round the polygon, the bottom one counterclockwise.
 fn to_the_right(surface: &Surface, row: Row, e: Corner) -> Corner
     requires { HasSide surface.now.polygons e }
+    ensures { result ≡ to_right_in surface.now row e }
 {
     match row {
         Row::Top => surface.side_before(e),
@@ -99,6 +105,7 @@ fn to_the_right(surface: &Surface, row: Row, e: Corner) -> Corner
 // The next side to the left.
 fn to_the_left(surface: &Surface, row: Row, e: Corner) -> Corner
     requires { HasSide surface.now.polygons e }
+    ensures { result ≡ to_left_in surface.now row e }
 {
     match row {
         Row::Top => surface.corner_after(e),

@@ -3,7 +3,9 @@
 ghost use Rattle.std.specs.Prelude.{◌≡◌, IsOk, Ok, Err, true, IfOk, OnOk, IfErr};
 ghost use Rattle.std.specs.List.{AllByRecursion};
 ghost use Rattle.fs_quadratic.specs.Ring.{zero};
+ghost use Rattle.fs_gluing.specs.FirstCut.{position_in};
 ghost use Rattle.fs_gluing.specs.Polygons.{HasSide};
+ghost use Rattle.fs_gluing.specs.SurfaceSides.{partner};
 ghost use Rattle.fs_iet.specs.ExchangeSites.{add_side, sum_after, checked_return, checked_returns};
 ghost use Rattle.fs_iet.specs.Rows.{HaveWidths};
 
@@ -37,6 +39,7 @@ pub fn find_total(surface: &Surface, v: V2, sides: &[Corner]) -> Result<Elem, Si
 }
 
 // The sum after a side.
+#[tactic(auto, unfolding(crate::specs::ExchangeSites::add_side))]
 fn add_side(surface: &Surface, v: V2, sum: Elem, e: Corner) -> Result<Elem, Place>
     requires { HasSide surface.now.polygons e }
     ensures { result ≡ add_side surface.now v sum e }
@@ -55,6 +58,8 @@ pub fn check_returns(surface: &Surface, v: V2, sides: &[Corner]) -> Result<(), S
     ensures returned { OnOk result (checked_returns surface.now v sides.now ≡ Ok true) }
     ensures stops { IfErr result (λ site. checked_returns surface.now v sides.now ≡ Err site) }
 {
+    // The contract of this call says what holds of the surface.
+    let _ = surface.field();
     for &f in sides {
         if is_outgoing(surface, v, f) {
             if let Err(Place(place)) = find_return(surface, f) {
@@ -74,7 +79,27 @@ pub fn find_return(surface: &Surface, f: Corner) -> Result<V2, Place>
     requires { HasSide surface.now.polygons f }
     ensures { result ≡ checked_return surface.now f }
 {
-    let end = surface.place(surface.corner_after(f));
-    let start = surface.place(surface.partner(f));
+    let end = position_of(surface, surface.corner_after(f));
+    let start = position_of(surface, partner_of(surface, f));
     vector_difference_after(0, end, start)
+}
+
+// The side that a side is glued to.
+pub fn partner_of(surface: &Surface, f: Corner) -> Corner
+    requires { HasSide surface.now.polygons f }
+    ensures is { result ≡ partner surface.now.polygons f }
+    ensures there { HasSide surface.now.polygons result }
+{
+    // The contract of this call says what holds of the surface.
+    let _ = surface.field();
+    surface.partner(f)
+}
+
+// The position of a corner, where corner 0 of its polygon is at (0,0).
+#[tactic(auto, using(crate::proofs::SurfaceReads::position_read))]
+pub fn position_of(surface: &Surface, c: Corner) -> V2
+    requires { HasSide surface.now.polygons c }
+    ensures { result ≡ position_in surface.now c.polygon c.side }
+{
+    surface.place(c)
 }

@@ -1,9 +1,10 @@
 // The sides of a surface, and how wide they are across a direction.
 
-ghost use Rattle.std.specs.Prelude.{◌≡◌, ◌↔◌, ◌<◌, ◌≤◌, ◌++◌, IsTrue, IsOk, length, map, take, IfOk, OnOk};
-ghost use Rattle.std.specs.List.{range_with_len};
+ghost use Rattle.std.specs.Prelude.{◌≡◌, ◌↔◌, ◌<◌, ◌++◌, IsTrue, IsOk, length, IfOk, OnOk};
 ghost use Rattle.fs_plane.specs.Formulas.{cross_after};
 ghost use Rattle.fs_gluing.specs.CrossingMap.{across, side_width, IsIncoming, IsOutgoing};
+ghost use Rattle.fs_gluing.specs.Gluing.{sides_between};
+ghost use Rattle.fs_gluing.specs.NextCorner.{side_count};
 ghost use Rattle.fs_gluing.specs.Polygons.{HasSide, all_sides};
 ghost use Rattle.fs_gluing.specs.SurfaceSides.{vector_of};
 
@@ -25,12 +26,9 @@ pub fn list_sides(alloc: Global, surface: &Surface) -> Result<Sequence<Corner>, 
 }
 
 // Adds the sides of polygon i.
-fn push_sides(
-    surface: &Surface,
-    i: u16,
-    sides: &mut Sequence<Corner>,
-) -> Result<(), AllocError>
+fn push_sides(surface: &Surface, i: u16, sides: &mut Sequence<Corner>) -> Result<(), AllocError>
     requires { i < length surface.now.polygons }
+    ensures { OnOk result (sides.new ≡ sides.old ++ sides_between i 0 (side_count surface.now.polygons i)) }
 {
     for j in 0..surface.sides(i) {
         sides.push(Corner::new(i, j))?;
