@@ -1,5 +1,5 @@
 -- What the parts of an exchange need while it is built, from its two rows.
-use Rattle.std.proofs.Common.{◌≡◌, ◌≢◌, ℕ, ◌*◌, ◌≤◌, Some, List, length, map, sum_by, refl, sym, ap, ◌∙◌, subst, arith}
+use Rattle.std.proofs.Common.{◌≡◌, ◌≢◌, ℕ, ◌≤◌, Some, List, length, map, refl, sym, ap, ◌∙◌, subst, arith}
 use Rattle.std.specs.List.{slice_get, AllByRecursion}
 use Rattle.fs_lists.specs.Members.{IsIn}
 use Rattle.fs_lists.proofs.All.{All-of_each, All-weaker}
@@ -9,7 +9,7 @@ use Rattle.fs_plane.specs.Vector.{PlaneVector, vector_zero}
 use Rattle.fs_gluing.specs.CrossingMap.{IsIncoming, IsOutgoing, block_start}
 use Rattle.fs_gluing.specs.Exchanges.{Component, Letter, AreChainsIn, IsTopRow, IsBottomRow, IsLetterOf, IsExchange}
 use Rattle.fs_gluing.specs.Polygons.{HasSide}
-use Rattle.fs_gluing.specs.Surface.{GluedPolygons, IsTranslationSurface, IsSurface}
+use Rattle.fs_gluing.specs.Surface.{GluedPolygons, IsSurface}
 use Rattle.fs_gluing.specs.SurfaceSides.{partner}
 use Rattle.fs_iet.specs.ExchangeValue.{IsExchangeValue, most_letters}
 use Rattle.fs_iet.proofs.ExchangeRows.{exchange_value}

@@ -1,20 +1,19 @@
 -- There is at most one exchange of a flow, and one site where it overflows.
-use Rattle.std.proofs.Common.{◌≡◌, ◌≢◌, ◌↔◌, ℕ, ◌<◌, Bool, true, false, Option, Some, List, [], ◌∷◌, length, map, Result, Ok, Err, refl, sym, ap, ◌∙◌, subst}
+use Rattle.std.proofs.Common.{◌≡◌, ◌≢◌, ◌↔◌, ℕ, ◌<◌, Bool, true, false, Some, List, [], ◌∷◌, length, map, Result, Ok, Err, refl, sym, ap, ◌∙◌}
 use Rattle.std.proofs.lemmas.List.{map-id}
 use Rattle.std.specs.List.{slice_get}
-use Rattle.std.specs.Result.{IsOk}
 use Rattle.fs_lists.specs.Members.{IsDistinct}
 use Rattle.fs_lists.proofs.Equal.{heads_equal, tails_equal}
 use Rattle.fs_lists.proofs.Results.{err_equal}
 use Rattle.fs_plane.specs.declared.corners.Corner.{Corner}
 use Rattle.fs_plane.specs.declared.sites.Site.{Site}
 use Rattle.fs_plane.specs.Vector.{PlaneVector, vector_zero}
-use Rattle.fs_gluing.specs.Exchanges.{Component, Letter, EndVector, IsChainIn, IsTopRow, IsBottomRow, IsLetterOf, IsExchange}
+use Rattle.fs_gluing.specs.Exchanges.{Component, Letter, IsChainIn, IsTopRow, IsBottomRow, IsLetterOf, IsExchange}
 use Rattle.fs_gluing.specs.Surface.{GluedPolygons, IsTranslationSurface}
 use Rattle.fs_gluing.specs.SurfaceSides.{partner}
 use Rattle.fs_iet.specs.declared.rows.Row.{Row}
 use Rattle.fs_iet.specs.declared.rows.Row.TheVariants.{Top, Bottom}
-use Rattle.fs_iet.specs.ExchangeSites.{GivesExchange, letter_overflows, shift_overflows, exchanged, checked_total, checked_returns}
+use Rattle.fs_iet.specs.ExchangeSites.{GivesExchange, letter_overflows, shift_overflows, exchanged}
 use Rattle.fs_iet.specs.Rows.{IsInRow, to_right_in}
 use Rattle.fs_iet.proofs.ItemRuns.{run_unique}
 use Rattle.fs_iet.proofs.ListsInTurn.{maps_equal, number_unique, item_of_other}

@@ -1,5 +1,5 @@
 -- Where the sum of the widths and all return vectors don't overflow, the width and the return vector of each side don't either.
-use Rattle.std.proofs.Common.{◌≡◌, if◌then◌else◌, Bool, true, false, Result, Ok, Err, IsOk, List, [], ◌∷◌, sym, ap, ◌∙◌, refl, subst}
+use Rattle.std.proofs.Common.{◌≡◌, if◌then◌else◌, Bool, true, false, Result, Ok, Err, IsOk, List, [], ◌∷◌, sym, ◌∙◌, refl, subst}
 use Rattle.std.specs.List.{AllByRecursion}
 use Rattle.std.specs.Ordering.{is_lt, is_gt}
 use Rattle.fs_lists.proofs.Members.{All-member}
@@ -12,7 +12,7 @@ use Rattle.fs_plane.specs.declared.sites.Site.{Site}
 use Rattle.fs_plane.specs.Formulas.{cross_after}
 use Rattle.fs_plane.specs.Vector.{PlaneVector}
 use Rattle.fs_gluing.specs.CrossingMap.{across, IsOutgoing}
-use Rattle.fs_gluing.specs.Polygons.{HasSide, all_sides}
+use Rattle.fs_gluing.specs.Polygons.{all_sides}
 use Rattle.fs_gluing.specs.Surface.{GluedPolygons}
 use Rattle.fs_gluing.specs.SurfaceSides.{vector_of}
 use Rattle.fs_gluing.proofs.Sides.AllSides.{in_all_sides}

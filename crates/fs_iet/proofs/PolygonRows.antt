@@ -10,7 +10,7 @@ use Rattle.fs_quadratic.specs.Ring.{IsPositive, neg}
 use Rattle.fs_plane.specs.declared.corners.Corner.{Corner}
 use Rattle.fs_plane.specs.Vector.{PlaneVector, vector_zero}
 use Rattle.fs_gluing.specs.declared.surfaces.Side.{Side}
-use Rattle.fs_gluing.specs.CrossingMap.{across, IsIncoming, IsOutgoing}
+use Rattle.fs_gluing.specs.CrossingMap.{across}
 use Rattle.fs_gluing.specs.Exchanges.{IsChainIn}
 use Rattle.fs_gluing.specs.NextCorner.{corner_after, side_before, side_count, length_or_0}
 use Rattle.fs_gluing.specs.Polygons.{HasSide}

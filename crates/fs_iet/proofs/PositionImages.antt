@@ -1,6 +1,5 @@
 -- The image of a position, letter after letter.
-use Rattle.std.proofs.Common.{◌≡◌, ◌≢◌, ℕ, zero, suc, ◌+◌, ◌≤◌, ◌==◌, if◌then◌else◌, Bool, true, false, Result, Ok, Err, Some, List, [], ◌∷◌, map, length, drop, sym, ap, ◌∙◌, refl, subst, arith}
-use Rattle.std.proofs.lemmas.List.{drop_all}
+use Rattle.std.proofs.Common.{◌≡◌, ◌≢◌, ℕ, zero, suc, ◌+◌, ◌==◌, if◌then◌else◌, Bool, true, false, Result, Ok, Err, Some, List, [], ◌∷◌, map, length, drop, sym, ap, ◌∙◌, refl, subst, arith}
 use Rattle.std.proofs.lemmas.Option.{same_Some, slice_get_read}
 use Rattle.std.proofs.lemmas.Bool.{eq-eqb, ne_eqb}
 use Rattle.std.specs.List.{slice_get, range_with_len}
@@ -12,7 +11,7 @@ use Rattle.fs_lists.proofs.Items.{IsItem, drop_item}
 use Rattle.fs_ring.specs.OrderedRing.{IsAtMost}
 use Rattle.fs_ring.proofs.Order.{sub_of_at_most, zero_at_most}
 use Rattle.fs_ring.proofs.Solver.{identity, ◌⊕◌, ◌⊖◌, ◌≐◌}
-use Rattle.fs_quadratic.specs.Checked.{◌>>=◌, step, checked_sum, checked_difference}
+use Rattle.fs_quadratic.specs.Checked.{◌>>=◌, checked_sum, checked_difference}
 use Rattle.fs_quadratic.specs.Radicand.{IsRadicand}
 use Rattle.fs_quadratic.specs.Ring as ring
 use Rattle.fs_quadratic.specs.Ring.{Quadratic, quadratic, IsPositive, IsLess, add, sub, total, compare}

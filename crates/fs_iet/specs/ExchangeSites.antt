@@ -1,5 +1,5 @@
 -- The exchange of a surface and a direction as it is computed, and the first site where this overflows.
-use Rattle.std.specs.Prelude.{◌≡◌, ℕ, if◌then◌else◌, Bool, true, Result, Ok, Err, IsOk, List, [], ◌∷◌}
+use Rattle.std.specs.Prelude.{◌≡◌, if◌then◌else◌, Bool, true, Result, Ok, Err, IsOk, List, [], ◌∷◌}
 use Rattle.std.specs.Ordering.{is_gt, is_lt}
 use Rattle.fs_quadratic.specs.Checked.{◌>>=◌, checked_sum}
 use Rattle.fs_quadratic.specs.Ring.{Quadratic, zero, sign}

@@ -1,8 +1,8 @@
 -- The image of a position under an exchange, as it is computed.
-use Rattle.std.specs.Prelude.{ℕ, ◌+◌, ◌==◌, if◌then◌else◌, Result, Ok, List, [], ◌∷◌, slice_index_or}
+use Rattle.std.specs.Prelude.{ℕ, ◌+◌, ◌==◌, if◌then◌else◌, Result, Ok, List, [], ◌∷◌}
 use Rattle.std.specs.Ordering.{is_lt}
 use Rattle.fs_quadratic.specs.Checked.{◌>>=◌, checked_sum, checked_difference}
-use Rattle.fs_quadratic.specs.Ring.{Quadratic, zero, compare}
+use Rattle.fs_quadratic.specs.Ring.{Quadratic, compare}
 use Rattle.fs_quadratic.specs.declared.steps.Place.{Place}
 use Rattle.fs_gluing.specs.Exchanges.{Letter, Component, length_of}
 

@@ -1,10 +1,9 @@
 -- The rows of an exchange as the code finds them. Only proofs and inner calls of this crate cite it; the contract of `find_exchange` doesn't rest on it.
 use Rattle.std.specs.Prelude.{◌≡◌, ℕ, IsOk}
 use Rattle.fs_plane.specs.declared.corners.Corner.{Corner}
-use Rattle.fs_plane.specs.Formulas.{cross_after, vector_difference_after}
+use Rattle.fs_plane.specs.Formulas.{cross_after}
 use Rattle.fs_plane.specs.Vector.{PlaneVector}
 use Rattle.fs_gluing.specs.CrossingMap.{IsIncoming, IsOutgoing}
-use Rattle.fs_gluing.specs.Exchanges.{AreChainsIn, IsTopRow, IsBottomRow}
 use Rattle.fs_gluing.specs.NextCorner.{corner_after, side_before}
 use Rattle.fs_gluing.specs.Polygons.{HasSide}
 use Rattle.fs_gluing.specs.Surface.{GluedPolygons}

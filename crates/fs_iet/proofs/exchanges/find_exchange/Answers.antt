@@ -1,14 +1,12 @@
 -- All sides are listed, their widths are summed, and the return vectors tried; then the exchange is built.
-use Rattle.std.proofs.Common.{◌≡◌, ◌↔◌, ℕ, Ok, Err, sym, ap, ◌∙◌, subst}
-use Rattle.std.specs.List.{AllByRecursion}
+use Rattle.std.proofs.Common.{◌≡◌, ◌↔◌, ℕ, Ok, sym, ap, ◌∙◌, subst}
 use Rattle.fs_gluing.specs.CrossingMap.{Crosses}
 use Rattle.fs_gluing.specs.Exchanges.{Letter, Takes}
 use Rattle.fs_gluing.specs.SurfaceSides.{partner}
-use Rattle.fs_gluing.specs.Polygons.{HasSide}
-use Rattle.fs_iet.specs.ExchangeSites.{GivesExchange, checked_returns}
+use Rattle.fs_iet.specs.ExchangeSites.{checked_returns}
 use Rattle.fs_iet.proofs.CrossingMaps.{map_of_positions}
 use Rattle.fs_iet.proofs.ExchangeCrossings.{crosses_iff_takes}
-use Rattle.fs_iet.proofs.ExchangeResults.{sides_there, total_of_sides, total_fits, returns_fit, gives_letter, gives_shift, gives_exchange, returns_only}
+use Rattle.fs_iet.proofs.ExchangeResults.{sides_there, total_of_sides, total_fits, returns_fit, gives_letter, gives_shift, gives_exchange}
 use Rattle.fs_iet.proofs.ExchangeUnique.{given_unique}
 use Rattle.fs_iet.proofs.FittingSides.{have_widths, have_returns}
 use Rattle.fs_iet.proofs.WidthTotals.{total_is}
