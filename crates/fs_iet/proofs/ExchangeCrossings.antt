@@ -1,5 +1,5 @@
 -- The exchange of a flow takes positions as the crossing map does. A library for crates to come.
-use Rattle.std.proofs.Common.{◌≡◌, ◌≢◌, ◌↔◌, Option, Some, None, length, refl, sym, ap, ◌∙◌, subst}
+use Rattle.std.proofs.Common.{◌≡◌, ℕ, ◌≢◌, ◌↔◌, Option, Some, None, length, refl, sym, ap, ◌∙◌, subst}
 use Rattle.std.specs.Option.{IsSome}
 use Rattle.fs_ring.specs.OrderedRing.{IsAtMost}
 use Rattle.fs_ring.proofs.RingLaws as ring_laws
@@ -13,6 +13,7 @@ use Rattle.fs_gluing.specs.Polygons.{at_side, HasSide}
 use Rattle.fs_gluing.specs.Surface.{GluedPolygons, IsTranslationSurface}
 use Rattle.fs_gluing.specs.SurfaceSides.{partner, partner_or}
 use Rattle.fs_gluing.proofs.Sides.PartnerSides.{has_partner, partner-partner}
+use Rattle.fs_iet.specs.ExchangeValue.{ExchangeValue}
 use Rattle.fs_iet.proofs.ListsInTurn.{in_by_number, number_of_member}
 use Rattle.fs_iet.proofs.ShiftedIntervals.{moved}
 use Rattle.fs_iet.proofs.SideMeasures.{surface_order}
@@ -88,9 +89,17 @@ module _ (s : GluedPolygons) (surface : IsTranslationSurface s) where
     -- its positions are those of the surface
     pub between_of_position : {y : Quadratic} → IsPosition s v y → IsBetweenEnds s.d c y
     between_of_position {y} p = record {
-      from_base = subst (λ b. IsAtMost (quadratic s.d) (IsPositive s.d) b y) (sym exchange.base) p.from_zero;
-      below_end = subst (IsLess s.d y) (sym (whole exchange.base exchange.total)) p.below_total;
+      from_left = subst (λ b. IsAtMost (quadratic s.d) (IsPositive s.d) b y) (sym exchange.base) p.from_zero;
+      before_right = subst (IsLess s.d y) (sym (whole exchange.base exchange.total)) p.below_total;
     }
       where
         whole : c.base ≡ nil → c.total ≡ block_start s v (length s.polygons) → add c.base c.total ≡ block_start s v (length s.polygons)
         whole e g = (λ i. add (e i) (g i)) ∙ ring_laws.zero_add (surface_order s surface).ring (block_start s v (length s.polygons))
+
+-- the clause of `find_exchange` on crossings, of a value with the field's d beside the component
+pub exchange_crossing : (s : GluedPolygons) → IsTranslationSurface s → (v : PlaneVector) → v ≢ vector_zero → (x : ExchangeValue) → x.d ≡ s.d → IsExchange s v x.component
+    → (y z : Quadratic) (h : PlaneVector) (f : Corner)
+    → Crosses s v y z h f ↔ ((letter : Letter) × Takes x.d x.component letter y z × (letter.back ≡ h) × (letter.corner ≡ partner s.polygons f))
+exchange_crossing s surface v some x same exchange y z h f =
+    subst (λ (d : ℕ). Crosses s v y z h f ↔ ((letter : Letter) × Takes d x.component letter y z × (letter.back ≡ h) × (letter.corner ≡ partner s.polygons f))) (sym same)
+    (crosses_iff_takes s surface v some exchange y z h f)

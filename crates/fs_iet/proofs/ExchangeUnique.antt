@@ -30,7 +30,7 @@ same_decision false true P f g = f.1 (g.0 refl)
 same_decision false false P f g = refl
 
 -- a side has one letter of a name
-pub letter_unique : (s : GluedPolygons) (v : PlaneVector) (f : Corner) (name : ℕ) (a b : Letter) → IsLetterOf s v f name a → IsLetterOf s v f name b → a ≡ b
+letter_unique : (s : GluedPolygons) (v : PlaneVector) (f : Corner) (name : ℕ) (a b : Letter) → IsLetterOf s v f name a → IsLetterOf s v f name b → a ≡ b
 letter_unique s v f name a b h k =
     let named = h.named ∙ sym k.named in
     let long = h.length ∙ sym k.length in
@@ -52,7 +52,7 @@ letter_unique s v f name a b h k =
 -- ---- names
 
 -- numbers of items of a list without repetition are determined by the items
-pub names_unique : {X : Type 0} (outgoing : List Corner) (other : X → Corner) → IsDistinct outgoing → (sides : List X) (names others : List ℕ) → map (λ n. slice_get outgoing n) names ≡ map (λ e. Some (other e)) sides
+names_unique : {X : Type 0} (outgoing : List Corner) (other : X → Corner) → IsDistinct outgoing → (sides : List X) (names others : List ℕ) → map (λ n. slice_get outgoing n) names ≡ map (λ e. Some (other e)) sides
     → map (λ n. slice_get outgoing n) others ≡ map (λ e. Some (other e)) sides → names ≡ others
 names_unique outgoing other once [] [] [] e f = refl
 names_unique outgoing other once [] [] (k ∷ others) e f = cc
@@ -66,15 +66,15 @@ module _ (s : GluedPolygons) (surface : IsTranslationSurface s) (v : PlaneVector
   -- ---- rows
 
   -- a polygon has one chain in a row
-  pub chain_unique : (row : Row) (i : ℕ) (xs ys : List Corner) → i < length s.polygons → IsChainIn (to_right_in s row) (IsInRow s v row) i xs → IsChainIn (to_right_in s row) (IsInRow s v row) i ys → xs ≡ ys
+  chain_unique : (row : Row) (i : ℕ) (xs ys : List Corner) → i < length s.polygons → IsChainIn (to_right_in s row) (IsInRow s v row) i xs → IsChainIn (to_right_in s row) (IsInRow s v row) i ys → xs ≡ ys
   chain_unique row i xs ys l h k =
       let r = row_run surface some i l row in
       run_unique r.run xs h.sides h.in_turn ∙ sym (run_unique r.run ys k.sides k.in_turn)
 
-  pub top_row_unique : (row other : List Corner) → IsTopRow s v row → IsTopRow s v other → row ≡ other
+  top_row_unique : (row other : List Corner) → IsTopRow s v row → IsTopRow s v other → row ≡ other
   top_row_unique row other h k = row_unique (length s.polygons) row other (λ i xs ys l. chain_unique Top i xs ys l) h k
 
-  pub bottom_row_unique : (row other : List Corner) → IsBottomRow s v row → IsBottomRow s v other → row ≡ other
+  bottom_row_unique : (row other : List Corner) → IsBottomRow s v row → IsBottomRow s v other → row ≡ other
   bottom_row_unique row other h k = row_unique (length s.polygons) row other (λ i xs ys l. chain_unique Bottom i xs ys l) h k
 
   -- ---- exchanges

@@ -1,5 +1,5 @@
 -- Intervals that are laid one after another: rows whose intervals agree, are mapped, or are as long in turn. A library for crates to come.
-use Rattle.std.proofs.Common.{◌≡◌, ℕ, zero, suc, Some, List, [], ◌∷◌, map, refl, sym, ap, ◌∙◌, subst, inl, inr}
+use Rattle.std.proofs.Common.{◌≡◌, ◌⊎◌, ℕ, zero, suc, Some, List, [], ◌∷◌, map, refl, sym, ap, ◌∙◌, subst, inl, inr}
 use Rattle.std.specs.List.{slice_get}
 use Rattle.std.proofs.lemmas.Option.{same_Some}
 use Rattle.fs_lists.specs.Members.{IsIn}
@@ -19,6 +19,20 @@ module _ {A : Type 0} (R : Operations A) where
     tiles_agree y z (x ∷ xs) same t =
         let here = same x (inl refl) in
         (here.0 ∙ t.0, subst (λ w. Tiles R left2 len2 (R.add y w) xs z) (sym here.1) (tiles_agree (R.add y (len x)) z xs (λ w h. same w (inr h)) t.1))
+
+  module _ {X : Type 0} (left len : X → A) where
+    first_begins : (y z : A) (xs : List X) → Tiles R left len y xs z → (z ≡ y) ⊎ ((w : X) × IsIn w xs × (left w ≡ y))
+    first_begins y z [] t = inl t
+    first_begins y z (x ∷ xs) t = inr (x, inl refl, t.0)
+
+    -- an interval ends where the row ends, or where another begins
+    pub tiles_right_is_left : (y z : A) (xs : List X) → Tiles R left len y xs z → (x : X) → IsIn x xs → (R.add (left x) (len x) ≡ z) ⊎ ((w : X) × IsIn w xs × (left w ≡ R.add (left x) (len x)))
+    tiles_right_is_left y z [] t x h = absurd h
+    tiles_right_is_left y z (a ∷ xs) t x (inl e) =
+        let right : R.add (left x) (len x) ≡ R.add y (len a) = ap (λ u. R.add (left u) (len u)) e ∙ ap (λ l. R.add l (len a)) t.0 in
+        elim (first_begins (R.add y (len a)) z xs t.1) [ inl f ↦ inl (right ∙ sym f) | inr k ↦ inr (k.0, inr k.1, k.2 ∙ sym right) ]
+    tiles_right_is_left y z (a ∷ xs) t x (inr h) =
+        elim (tiles_right_is_left (R.add y (len a)) z xs t.1 x h) [ inl e ↦ inl e | inr k ↦ inr (k.0, inr k.1, k.2) ]
 
   module _ {X W : Type 0} (left len : X → A) (f : W → X) where
     -- the intervals of a mapped list are those of the values
@@ -67,3 +81,24 @@ module _ {A X : Type 0} {R : Operations A} {P : A → Type 0} (L : IsOrderedRing
       let first : left x ≡ lo = order.at_most_antisymm L (left x) lo (subst (IsAtMost R P (left x)) at_lo (bounds a ha).0) (within x (inl refl)).0 in
       let end : last ≡ hi = order.at_most_antisymm L last hi (within ends.0 ends.1).1 (subst (λ y. IsAtMost R P y last) at_hi (bounds b hb).1) in
       subst (λ y. Tiles R left len y (x ∷ xs) hi) first (subst (Tiles R left len (left x) (x ∷ xs)) end ends.2)
+
+module _ {A X : Type 0} {R : Operations A} {P : A → Type 0} (L : IsOrderedRing R P) (left len : X → A) where
+  -- items are one, or the interval of the one ends before that of the other begins
+  pub tiles_apart : (y z : A) (xs : List X) → ((x : X) → IsIn x xs → P (len x)) → Tiles R left len y xs z → (x w : X) → IsIn x xs → IsIn w xs
+      → (x ≡ w) ⊎ (IsAtMost R P (R.add (left x) (len x)) (left w) ⊎ IsAtMost R P (R.add (left w) (len w)) (left x))
+  tiles_apart y z [] long t x w hx hw = absurd hx
+  tiles_apart y z (a ∷ xs) long t x w hx hw = go hx hw (λ h k. tiles_apart (R.add y (len a)) z xs (λ u m. long u (inr m)) t.1 x w h k)
+    where
+      -- a later interval begins where the first one ends, or after it
+      later : (u b : X) → u ≡ a → IsIn b xs → IsAtMost R P (R.add (left u) (len u)) (left b)
+      later u b e h =
+          let bounds = (tiles_bounds L left len (R.add y (len a)) z xs (λ u m. long u (inr m)) t.1).1 b h in
+          subst (λ q. IsAtMost R P q (left b)) (sym (ap (λ u. R.add (left u) (len u)) e ∙ ap (λ l. R.add l (len a)) t.0)) bounds.0
+
+      go : (x ≡ a) ⊎ IsIn x xs → (w ≡ a) ⊎ IsIn w xs
+          → (IsIn x xs → IsIn w xs → (x ≡ w) ⊎ (IsAtMost R P (R.add (left x) (len x)) (left w) ⊎ IsAtMost R P (R.add (left w) (len w)) (left x)))
+          → (x ≡ w) ⊎ (IsAtMost R P (R.add (left x) (len x)) (left w) ⊎ IsAtMost R P (R.add (left w) (len w)) (left x))
+      go (inl e) (inl f) both = inl (e ∙ sym f)
+      go (inl e) (inr k) both = inr (inl (later x w e k))
+      go (inr h) (inl f) both = inr (inr (later w x f h))
+      go (inr h) (inr k) both = both h k

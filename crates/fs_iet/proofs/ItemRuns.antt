@@ -37,18 +37,18 @@ module _ {X : Type 0} (f : X → X) where
   walk_chain (suc zero) x = tt
   walk_chain (suc (suc n)) x = (refl, walk_chain (suc n) (f x))
 
-  pub in_walk : (n k : ℕ) (x : X) → k < n → IsIn (iterate f k x) (walk f n x)
+  in_walk : (n k : ℕ) (x : X) → k < n → IsIn (iterate f k x) (walk f n x)
   in_walk zero k x l = absurd (omega arith)
   in_walk (suc n) zero x l = inl refl
   in_walk (suc n) (suc k) x l = inr (in_walk n k (f x) (omega arith))
 
-  pub walk_in : (n : ℕ) (x y : X) → IsIn y (walk f n x) → (k : ℕ) × (k < n) × (iterate f k x ≡ y)
+  walk_in : (n : ℕ) (x y : X) → IsIn y (walk f n x) → (k : ℕ) × (k < n) × (iterate f k x ≡ y)
   walk_in zero x y h = absurd h
   walk_in (suc n) x y (inl e) = (0, omega arith, sym e)
   walk_in (suc n) x y (inr h) = let r = walk_in n (f x) y h in let l = r.1 in (suc r.0, omega arith, r.2)
 
   -- a list in which each item is f of the one before is the walk from its first item
-  pub chain_is_walk : (x : X) (xs : List X) → IsChainOf f (x ∷ xs) → x ∷ xs ≡ walk f (suc (length xs)) x
+  chain_is_walk : (x : X) (xs : List X) → IsChainOf f (x ∷ xs) → x ∷ xs ≡ walk f (suc (length xs)) x
   chain_is_walk x [] c = refl
   chain_is_walk x (y ∷ ys) c = ap (λ zs. x ∷ zs) (chain_is_walk y ys c.1 ∙ ap (walk f (suc (length ys))) c.0)
 
@@ -61,13 +61,13 @@ module _ {X : Type 0} (f : X → X) where
 
 module _ {X : Type 0} {f : X → X} {P : X → Type 0} {x : X} {m n : ℕ} (run : IsRun f P x m n) where
   -- an item with the property is one of the run
-  pub in_run : (y : X) → P y → (k : ℕ) × (k < m) × (iterate f k x ≡ y)
+  in_run : (y : X) → P y → (k : ℕ) × (k < m) × (iterate f k x ≡ y)
   in_run y p =
       let r = run.each y p in
       elim (less_or_not r.0 m) [ inl l ↦ (r.0, l, r.2) | inr l ↦ absurd (run.outside r.0 l r.1 (subst P (sym r.2) p)) ]
 
   -- no item comes again before the end of the run
-  pub run_apart : (k l : ℕ) → k < l → l ≤ m → iterate f k x ≢ iterate f l x
+  run_apart : (k l : ℕ) → k < l → l ≤ m → iterate f k x ≢ iterate f l x
   run_apart k l less most e =
       let rest : l + (m - l) ≡ m = omega arith in
       let same : iterate f (k + (m - l)) x ≡ iterate f m x

@@ -2,6 +2,7 @@ pub mod BottomNames
 pub mod BuiltExchanges
 pub mod Chains
 pub mod ComputedMeasures
+pub mod CornerMeasures
 pub mod CrossingMaps
 pub mod ExchangeCrossings
 pub mod ExchangeNames
@@ -10,6 +11,7 @@ pub mod ExchangeRows
 pub mod ExchangeUnique
 pub mod FirstReturns
 pub mod FittingSides
+pub mod Floors
 pub mod GreatestMeasures
 pub mod ImagePositions
 pub mod Intervals

@@ -49,6 +49,16 @@ module _ (s : GluedPolygons) (surface : IsTranslationSurface s) (v : PlaneVector
         at = (map_of_positions s surface v some).one_to_one y (outgoing_left s v g) z h (gluing_vector s v g) f g c (subst (λ z. Crosses s v (outgoing_left s v g) z (gluing_vector s v g) g) there ends);
       }
 
+  -- an incoming side with this left end is the only one
+  pub in_mark_unique : {z : Quadratic} {e g : Corner} → IsInMark s v z e → IsInMark s v z g → e ≡ g
+  in_mark_unique {z} {e} {g} m k =
+      let f = partner s.polygons e in
+      let from_f = crosses_left_end s surface v f (partner_outgoing s surface v e m.incoming) in
+      let there : incoming_left s v (partner s.polygons f) ≡ z = ap (incoming_left s v) (partner-partner s.polygons surface.glued e m.incoming.side) ∙ sym m.at in
+      let crossing : Crosses s v (outgoing_left s v f) z (gluing_vector s v f) f = subst (λ z. Crosses s v (outgoing_left s v f) z (gluing_vector s v f) f) there from_f in
+      let same : f ≡ partner s.polygons g = out_mark_unique (out_mark_before crossing m) (out_mark_before crossing k) in
+      partner_one_to_one s surface e g k.incoming.side same
+
   -- the flow crosses from the left end of an outgoing side exactly where it comes to that of an incoming one
   pub out_mark_iff_in_mark : {y z : Quadratic} {h : PlaneVector} {e : Corner} → Crosses s v y z h e → ((f : Corner) × IsOutMark s v y f) ↔ ((f : Corner) × IsInMark s v z f)
   out_mark_iff_in_mark c = ((λ m. (partner s.polygons m.0, in_mark_beyond c m.1)), (λ m. (partner s.polygons m.0, out_mark_before c m.1)))

@@ -21,7 +21,8 @@ use Rattle.fs_iet.proofs.PolygonMeasures.{RunsAcross, first_corner, from_block_s
 in_run : (r j k : ℕ) → r + j ≤ k → (m : ℕ) × (k ≡ r + (j + m))
 in_run r j k l = (k - (r + j), omega arith)
 
-run_of : (j a h p : ℕ) → (j < a) ⊎ (((a ≤ j) × (j < h)) ⊎ (((h ≤ j) × (j < p)) ⊎ (p ≤ j)))
+-- the run of a number among four
+pub run_of : (j a h p : ℕ) → (j < a) ⊎ (((a ≤ j) × (j < h)) ⊎ (((h ≤ j) × (j < p)) ⊎ (p ≤ j)))
 run_of j a h p = elim (less_or_not j a) [
   | inl l ↦ inl l
   | inr m ↦ elim (less_or_not j h) [

@@ -180,12 +180,14 @@ module _ (s : GluedPolygons) (surface : IsTranslationSurface s) where
         (λ k. highest c has same
         (signs.positive_by L (block_start s v i ∷ x r ∷ to_right s v c ∷ x (r + h) ∷ []) (λ b x t g. t ⊖ g ≐ (b ⊕ (t ⊖ x)) ⊖ (b ⊕ (g ⊖ x))) refl k)))
 
-    at_start : (k : ℕ) → x k ≡ x r → measure s v (side k) ≡ block_start s v i
+    -- corners that are as far right as the first of the runs have the measure where the block begins
+    pub at_start : (k : ℕ) → x k ≡ x r → measure s v (side k) ≡ block_start s v i
     at_start k e =
         measure_is (side k) (numbered_polygon s.polygons i k) ∙ ap (λ t. add (block_start s v i) (sub t (x r))) e
         ∙ identity L.ring (block_start s v i ∷ x r ∷ []) (λ b x. b ⊕ (x ⊖ x) ≐ b) refl
 
-    at_end : (k : ℕ) → x k ≡ x (r + h) → measure s v (side k) ≡ block_start s v (suc i)
+    -- and those as far right as the end of the incoming ones that where it ends
+    pub at_end : (k : ℕ) → x k ≡ x (r + h) → measure s v (side k) ≡ block_start s v (suc i)
     at_end k e =
         measure_is (side k) (numbered_polygon s.polygons i k) ∙ ap (λ t. add (block_start s v i) (sub t (x r))) e ∙ sym block_end
 

@@ -93,12 +93,12 @@ abbrev pub IsOfPolygon : GluedPolygons → PlaneVector → Row → ℕ → Corne
 IsOfPolygon s v row i e = (e.polygon ≡ i) × IsInRow s v row e
 
 -- a side in a row exists
-pub row_side : (s : GluedPolygons) (v : PlaneVector) (row : Row) (e : Corner) → IsInRow s v row e → HasSide s.polygons e
+row_side : (s : GluedPolygons) (v : PlaneVector) (row : Row) (e : Corner) → IsInRow s v row e → HasSide s.polygons e
 row_side s v Top e h = h.side
 row_side s v Bottom e h = h.side
 
 -- the side to the left of the one to the right is the side
-pub left-right : (s : GluedPolygons) (row : Row) (e : Corner) → HasSide s.polygons e → to_left_in s row (to_right_in s row e) ≡ e
+left-right : (s : GluedPolygons) (row : Row) (e : Corner) → HasSide s.polygons e → to_left_in s row (to_right_in s row e) ≡ e
 left-right s Top e h = after-before_corner s.polygons e h
 left-right s Bottom e h = before-after_corner s.polygons e h
 

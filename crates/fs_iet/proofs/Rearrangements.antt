@@ -7,7 +7,7 @@ use Rattle.std.proofs.lemmas.Bool.Decides.{eqb_tells}
 use Rattle.std.specs.List as by_test
 use Rattle.std.specs.List.{AllByRecursion}
 use Rattle.fs_lists.specs.Members.{IsIn, IsDistinct}
-use Rattle.fs_lists.proofs.Members.{in_of_contains, All-member}
+use Rattle.fs_lists.proofs.Members.{in_of_contains, All-member, in_map, in_map_cases, apart_map}
 use Rattle.fs_lists.proofs.Removal.{without, in_without, without_or, apart_without}
 use Rattle.fs_ring.proofs.RingLaws as ring_laws
 use Rattle.fs_quadratic.specs.Ring.{Quadratic, add, total}
@@ -107,3 +107,17 @@ total_of_members f (x ∷ xs) ys p q to back =
     let h = to x (inl refl) in
     ap (add (f x)) (total_of_members f xs (without x ys h) p.1 (apart_without (λ u v. u ≡ v) x ys h q) (rest_in x xs ys h p to) (rest_back x xs ys h q back))
     ∙ sym (total-without f x ys h)
+
+-- where g and k are each other's inverses on a list of different items, the sum of the values at g of each is the same
+pub total_through : {X : Type 0} (f : X → Quadratic) (g k : X → X) (xs : List X) → IsDistinct xs → ((x : X) → IsIn x xs → IsIn (g x) xs × (k (g x) ≡ x))
+    → ((x : X) → IsIn x xs → IsIn (k x) xs × (g (k x) ≡ x)) → total (map (λ x. f (g x)) xs) ≡ total (map f xs)
+total_through f g k xs p to back =
+    ap total (sym (map-map g f xs))
+    ∙ total_of_members f (map g xs) xs
+    (apart_map g (λ x y. x ≡ y) (λ x y. x ≡ y) xs (λ x w hx hw e. sym (to x hx).1 ∙ ap k e ∙ (to w hw).1) p) p
+    (λ x h. let r = in_map_cases g x xs h in subst (λ y. IsIn y xs) (sym r.2) (to r.0 r.1).0)
+    (λ x h. let r = back x h in subst (λ y. IsIn y (map g xs)) r.1 (in_map g (k x) xs r.0))
+  where
+    map-map : {X Y Z : Type 0} (g : X → Y) (f : Y → Z) (xs : List X) → map f (map g xs) ≡ map (λ x. f (g x)) xs
+    map-map g f [] = refl
+    map-map g f (x ∷ xs) = ap (λ ys. f (g x) ∷ ys) (map-map g f xs)

@@ -1,5 +1,5 @@
 -- A lawful component takes its positions to its positions, one to one and onto, each by one letter. A library for crates to come.
-use Rattle.std.proofs.Common.{◌≡◌, ℕ, List, [], ◌∷◌, refl, sym, ap, ◌∙◌, subst, inl, inr}
+use Rattle.std.proofs.Common.{◌≡◌, ◌⊎◌, ℕ, List, [], ◌∷◌, refl, sym, ap, ◌∙◌, subst, inl, inr}
 use Rattle.fs_lists.specs.Members.{IsIn, IsDistinct}
 use Rattle.fs_lists.proofs.Members.{in_map, in_map_cases}
 use Rattle.fs_ring.specs.OrderedRing.{IsOrderedRing, IsNonNegative, IsAtMost}
@@ -7,13 +7,14 @@ use Rattle.fs_ring.proofs.Order as order
 use Rattle.fs_quadratic.specs.Ring.{Quadratic, quadratic, IsPositive, IsLess, add, sub}
 use Rattle.fs_convex.proofs.Rows.{Tiles, Holds, tiles_bounds, tile_exists, tile_unique}
 use Rattle.fs_gluing.specs.Exchanges.{Letter, Component, IsLawful, names_of, length_of, top_left, bottom_left, Takes}
+use Rattle.fs_iet.specs.FirstReturns.{IsBetween}
+use Rattle.fs_iet.proofs.Intervals.{tiles_right_is_left, tiles_apart}
 use Rattle.fs_iet.proofs.LetterRows.{letter_long, name_long, name_in_top, name_in_bottom, length_of_letter, top_tiles, bottom_tiles}
 use Rattle.fs_iet.proofs.ShiftedIntervals.{moved, moved_from_left, moved_before_right, moved_back, moved_one_to_one, moved_left, moved_sub, sub_before, holds_left}
 
 -- y is a position of the component
-pub record IsBetweenEnds (d : ℕ) (c : Component) (y : Quadratic) : Type 0 where
-  pub from_base : IsAtMost (quadratic d) (IsPositive d) c.base y
-  pub below_end : IsLess d y (add c.base c.total)
+abbrev pub IsBetweenEnds : ℕ → Component → Quadratic → Type 0
+IsBetweenEnds d c y = IsBetween d c.base (add c.base c.total) y
 
 module _ {d : ℕ} (L : IsOrderedRing (quadratic d) (IsPositive d)) {c : Component} (lawful : IsLawful d c) where
   abbrev top_of : Letter → Quadratic
@@ -87,8 +88,8 @@ module _ {d : ℕ} (L : IsOrderedRing (quadratic d) (IsPositive d)) {c : Compone
   within_row left len xs y x long t h k =
       let bounds = (tiles_bounds L left len c.base (add c.base c.total) xs long t).1 x h in
       record {
-        from_base = order.at_most_trans L c.base (left x) y bounds.0 k.from_left;
-        below_end = order.less_of_less_at_most L y (add (left x) (len x)) (add c.base c.total) k.before_right bounds.1;
+        from_left = order.at_most_trans L c.base (left x) y bounds.0 k.from_left;
+        before_right = order.less_of_less_at_most L y (add (left x) (len x)) (add c.base c.total) k.before_right bounds.1;
       }
 
   bottom_long : (name : ℕ) → IsIn name c.bottom → IsPositive d (length_of c.top name)
@@ -104,7 +105,7 @@ module _ {d : ℕ} (L : IsOrderedRing (quadratic d) (IsPositive d)) {c : Compone
   -- each position is taken somewhere
   pub takes_some : (y : Quadratic) → IsBetweenEnds d c y → (letter : Letter) × (z : Quadratic) × Takes d c letter y z
   takes_some y h =
-      let found = tile_exists L top_of (λ letter. letter.length) c.base (add c.base c.total) y c.top (top_tiles L lawful) h.from_base h.below_end in
+      let found = tile_exists L top_of (λ letter. letter.length) c.base (add c.base c.total) y c.top (top_tiles L lawful) h.from_left h.before_right in
       (found.0, moved (quadratic d) (top_of found.0) (bottom_of found.0) y, takes_held found.0 y found.1 found.2)
 
   -- by one letter
@@ -120,7 +121,7 @@ module _ {d : ℕ} (L : IsOrderedRing (quadratic d) (IsPositive d)) {c : Compone
   -- each position is one that some position is taken to
   pub takes_onto : (z : Quadratic) → IsBetweenEnds d c z → (letter : Letter) × (y : Quadratic) × Takes d c letter y z
   takes_onto z h =
-      let found = tile_exists L (bottom_left c) (length_of c.top) c.base (add c.base c.total) z c.bottom (bottom_tiles L lawful) h.from_base h.below_end in
+      let found = tile_exists L (bottom_left c) (length_of c.top) c.base (add c.base c.total) z c.bottom (bottom_tiles L lawful) h.from_left h.before_right in
       let from = in_map_cases (λ (l : Letter). l.name) found.0 c.top (name_in_top L lawful found.0 found.1) in
       let letter = from.0 in
       let y = moved (quadratic d) (bottom_of letter) (top_of letter) z in
@@ -160,3 +161,21 @@ module _ {d : ℕ} (L : IsOrderedRing (quadratic d) (IsPositive d)) {c : Compone
   -- and those with one in the bottom row
   pub bottom_left_one_to_one : (a b : Letter) → IsIn a c.top → IsIn b c.top → bottom_of a ≡ bottom_of b → a ≡ b
   bottom_left_one_to_one a b ha hb e = takes_from_one_letter (takes_left_end a ha) (subst (Takes d c b (top_of b)) (sym e) (takes_left_end b hb))
+
+  -- a letter ends where the component ends, or where another begins in the same row
+  pub top_right_is_left : (a : Letter) → IsIn a c.top → (add (top_of a) a.length ≡ add c.base c.total) ⊎ ((b : Letter) × IsIn b c.top × (top_of b ≡ add (top_of a) a.length))
+  top_right_is_left a h = tiles_right_is_left (quadratic d) top_of (λ letter. letter.length) c.base (add c.base c.total) c.top (top_tiles L lawful) a h
+
+  pub bottom_right_is_left : (a : Letter) → IsIn a c.top → (add (bottom_of a) a.length ≡ add c.base c.total) ⊎ ((b : Letter) × IsIn b c.top × (bottom_of b ≡ add (bottom_of a) a.length))
+  bottom_right_is_left a h =
+      let same = length_of_letter c.top a lawful.names h in
+      elim (tiles_right_is_left (quadratic d) (bottom_left c) (length_of c.top) c.base (add c.base c.total) c.bottom (bottom_tiles L lawful) a.name (name_of_letter a h)) [
+        | inl e ↦ inl (ap (add (bottom_of a)) (sym same) ∙ e)
+        | inr k ↦
+            let named = in_map_cases (λ (l : Letter). l.name) k.0 c.top (name_in_top L lawful k.0 k.1) in
+            inr (named.0, named.1, ap (bottom_left c) (sym named.2) ∙ k.2 ∙ ap (add (bottom_of a)) same)
+      ]
+
+  -- letters are one, or the one ends before the other begins in the top row
+  pub top_apart : (a b : Letter) → IsIn a c.top → IsIn b c.top → (a ≡ b) ⊎ (IsAtMost (quadratic d) (IsPositive d) (add (top_of a) a.length) (top_of b) ⊎ IsAtMost (quadratic d) (IsPositive d) (add (top_of b) b.length) (top_of a))
+  top_apart a b ha hb = tiles_apart L top_of (λ letter. letter.length) c.base (add c.base c.total) c.top (letter_long L lawful) (top_tiles L lawful) a b ha hb
