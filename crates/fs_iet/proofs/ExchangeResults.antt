@@ -6,15 +6,12 @@ use Rattle.fs_quadratic.specs.Ring as ring
 use Rattle.fs_quadratic.specs.Ring.{Quadratic}
 use Rattle.fs_plane.specs.declared.corners.Corner.{Corner}
 use Rattle.fs_plane.specs.declared.sites.Site.{Site}
-use Rattle.fs_plane.specs.declared.sites.Stop.{Stop}
-use Rattle.fs_plane.specs.declared.sites.Stop.TheVariants.{Undecided, Overflow, NoMemory}
 use Rattle.fs_plane.specs.Vector.{PlaneVector}
 use Rattle.fs_gluing.specs.Exchanges.{Component, IsExchange}
 use Rattle.fs_gluing.specs.Polygons.{HasSide, all_sides}
 use Rattle.fs_gluing.specs.Surface.{GluedPolygons}
 use Rattle.fs_gluing.proofs.Sides.AllSides.{all_sides_in}
 use Rattle.fs_iet.specs.ExchangeSites.{sum_after, checked_total, checked_returns, GivesExchange, letter_overflows, shift_overflows, exchanged}
-use Rattle.fs_iet.specs.ExchangeValue.{ExchangeValue, ReturnsExchange}
 
 -- what holds of each member holds of each item
 All-members : {X : Type 0} (P : X → Type 0) (xs : List X) → ((x : X) → IsIn x xs → P x) → AllByRecursion P xs
@@ -50,11 +47,3 @@ module _ (s : GluedPolygons) (v : PlaneVector) (sides : List Corner) (all : side
     -- nothing overflows
     pub gives_exchange : (c : Component) → checked_returns s v sides ≡ Ok true → IsExchange s v c → GivesExchange s v (Ok c)
     gives_exchange c e exchange = exchanged c total_fits (returns_fit e) exchange
-
--- where the definition gives one result only, it is the one that is returned
-pub returns_only : (P : Result Component Site → Type 0) → ((a b : Result Component Site) → P a → P b → a ≡ b) → (r : Result ExchangeValue Stop) → ReturnsExchange P r
-    → (given : Result Component Site) → P given → ReturnsExchange (λ returned. returned ≡ given) r
-returns_only P only (Ok x) h given k = only (Ok x.component) given h k
-returns_only P only (Err NoMemory) h given k = tt
-returns_only P only (Err (Undecided n)) h given k = h
-returns_only P only (Err (Overflow site)) h given k = only (Err site) given h k

@@ -10,7 +10,7 @@ use Rattle.fs_gluing.specs.Convex.{corner_position}
 use Rattle.fs_gluing.specs.FirstCut.{position_in}
 use Rattle.fs_gluing.specs.Polygons.{at_side, HasSide}
 use Rattle.fs_gluing.specs.Surface.{GluedPolygons, side_vectors}
-use Rattle.fs_gluing.specs.SurfaceSides.{partner_or, partner, vector_or, vector_of}
+use Rattle.fs_gluing.specs.SurfaceSides.{partner_or, partner}
 use Rattle.fs_gluing.proofs.SurfaceCalls.NextCorner.{in_polygon}
 
 -- the partner of a side
@@ -18,12 +18,6 @@ pub partner_read : (polygons : List (List Side)) (c p : Corner) → HasSide poly
 partner_read polygons c p has h =
     let s = value_of (at_side polygons c) has in
     value_holds (at_side polygons c) (λ side. p ≡ side.partner) s.value s.is h ∙ sym (ap (partner_or c) s.is)
-
--- the vector of a side
-pub vector_read : (polygons : List (List Side)) (c : Corner) (v : PlaneVector) → HasSide polygons c → IfSome (at_side polygons c) (λ side. v ≡ side.vector) → v ≡ vector_of polygons c
-vector_read polygons c v has h =
-    let s = value_of (at_side polygons c) has in
-    value_holds (at_side polygons c) (λ side. v ≡ side.vector) s.value s.is h ∙ sym (ap vector_or s.is)
 
 -- the position of a corner
 pub position_read : (s : GluedPolygons) (c : Corner) (at : PlaneVector) → HasSide s.polygons c
