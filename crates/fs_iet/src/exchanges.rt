@@ -56,7 +56,8 @@ impl Model for Exchange {
 /// It is refused as `Overflow` at the first site, in this order: `Letter` where the cross product of a side and `v` overflows
 /// (places 1 to 3), or, for a side by which the flow enters, the sum of the lengths so far (place 4), side after side of all
 /// polygons; then `Shift` where the return vector of a letter overflows, by the side by which the flow leaves, in the same
-/// order. It is never undecided. The cost and the memory are linear in the number of sides.
+/// order. It is never undecided. The cost is linear in the sides. The exchange holds memory linear in its letters; while it is
+/// found, a list of the sides and a number for each are held too.
 pub fn find_exchange(alloc: Global, surface: &Surface, v: V2) -> Result<Exchange, Stop>
     requires direction { v ≢ vector_zero }
     ensures exchange { ReturnsExchange (GivesExchange surface.now v) result }
