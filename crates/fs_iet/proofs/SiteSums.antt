@@ -1,6 +1,5 @@
 -- The sums of widths and the return vectors, side after side, up to the first site.
-use Rattle.std.proofs.Common.{◌≡◌, ℕ, ◌+◌, ◌≤◌, if◌then◌else◌, Bool, true, false, Result, Ok, Err, List, length, drop, sym, ap, ◌∙◌, refl}
-use Rattle.std.proofs.lemmas.List.{drop_all}
+use Rattle.std.proofs.Common.{◌≡◌, ℕ, ◌+◌, if◌then◌else◌, Bool, true, false, Ok, Err, List, drop, sym, ap, ◌∙◌, refl}
 use Rattle.std.specs.Ordering.{is_lt}
 use Rattle.std.specs.declared.cmp.Ordering.{Ordering}
 use Rattle.std.specs.declared.cmp.Ordering.TheVariants.{Less, Equal, Greater}
@@ -11,34 +10,17 @@ use Rattle.fs_quadratic.specs.declared.steps.Place.{Place}
 use Rattle.fs_quadratic.specs.Radicand.{IsNoSquare}
 use Rattle.fs_quadratic.proofs.Signs.{sign-negative, negative_of_sign}
 use Rattle.fs_plane.specs.declared.corners.Corner.{Corner}
-use Rattle.fs_plane.specs.declared.sites.Site.{Site}
 use Rattle.fs_plane.specs.declared.sites.Site.TheVariants as sites
 use Rattle.fs_plane.specs.Vector.{PlaneVector}
 use Rattle.fs_gluing.specs.CrossingMap.{across, IsOutgoing}
 use Rattle.fs_gluing.specs.Polygons.{HasSide}
 use Rattle.fs_gluing.specs.Surface.{GluedPolygons}
-use Rattle.fs_iet.specs.ExchangeSites.{add_side, sum_after, measured, checked_return, checked_returns, returned}
+use Rattle.fs_iet.specs.ExchangeSites.{sum_after, checked_return, checked_returns, returned}
 
 module _ (s : GluedPolygons) (v : PlaneVector) where
   -- the sides before i are in the sum
   pub record SumsSidesUpTo (sides : List Corner) (i : ℕ) (sum : Quadratic) : Type 0 where
     pub is : sum_after s v ring.zero sides ≡ sum_after s v sum (drop i sides)
-
-  -- with one side more
-  pub summed_more : (sides : List Corner) (i : ℕ) (e : Corner) (sum next : Quadratic) → IsItem sides i e → Ok next ≡ add_side s v sum e → SumsSidesUpTo sides i sum → SumsSidesUpTo sides (i + 1) next
-  summed_more sides i e sum next item here h = record {
-    is = h.is ∙ ap (sum_after s v sum) (drop_item sides i e item) ∙ ap (λ r. measured s v e r (λ x. sum_after s v x (drop (i + 1) sides))) (sym here);
-  }
-
-  -- a side has a site, and it is that of the whole sum
-  pub summed_stops : (sides : List Corner) (i : ℕ) (e : Corner) (sum : Quadratic) (stop : Place) → IsItem sides i e → Err stop ≡ add_side s v sum e → SumsSidesUpTo sides i sum
-      → ◌≡◌ {A = Result Quadratic Site} (Err (sites.Letter e.polygon e.side stop.0)) (sum_after s v ring.zero sides)
-  summed_stops sides i e sum stop item here h =
-      sym (h.is ∙ ap (sum_after s v sum) (drop_item sides i e item) ∙ ap (λ r. measured s v e r (λ x. sum_after s v x (drop (i + 1) sides))) (sym here))
-
-  -- with all sides
-  pub summed_all : (sides : List Corner) (i : ℕ) (sum : Quadratic) → length sides ≤ i → SumsSidesUpTo sides i sum → Ok sum ≡ sum_after s v ring.zero sides
-  summed_all sides i sum l h = sym (h.is ∙ ap (sum_after s v sum) (drop_all i sides l))
 
   -- ---- return vectors
 
