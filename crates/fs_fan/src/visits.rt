@@ -106,26 +106,8 @@ pub fn find_visit(mesh: &Mesh<'_>, bound: Elem, entry: &Entry) -> Result<Sight, 
     let past_left = field.sign(left_turn) == Ordering::Greater;
     let within = is_within(field, bound, tip);
     let found = is_tip_within(field, bound, tip, within, past_right && past_left)?;
-    let is_right_near = is_near(entry.right_within, within);
-    let right = is_side_within(
-        11,
-        field,
-        bound,
-        entry.right_end,
-        tip,
-        past_right,
-        is_right_near,
-    )?;
-    let is_left_near = is_near(within, entry.left_within);
-    let left = is_side_within(
-        33,
-        field,
-        bound,
-        tip,
-        entry.left_end,
-        past_left,
-        is_left_near,
-    )?;
+    let right = is_right_live(field, bound, entry, tip, within, past_right)?;
+    let left = is_left_live(field, bound, entry, tip, within, past_left)?;
     let visit = Visit {
         tip,
         past_right,
@@ -159,6 +141,41 @@ fn is_tip_within(
             Ok(field.cmp(length, bound).is_le())
         }
     }
+}
+
+// Whether the word with the letter right more is live: the sector reaches the side from the right end to the tip, and the
+// side comes within the bound.
+fn is_right_live(
+    field: Field,
+    bound: Elem,
+    entry: &Entry,
+    tip: V2,
+    within: Option<bool>,
+    reached: bool,
+) -> Result<bool, Place>
+    requires ends { TellsEnds field.d bound entry.now }
+    requires within { within ≡ known_within field.d bound tip }
+    ensures { result ≡ side_within 11 field.d bound entry.now.right_end tip reached }
+{
+    let is_near = is_near(entry.right_within, within);
+    is_side_within(11, field, bound, entry.right_end, tip, reached, is_near)
+}
+
+// Whether the word with the letter left more is live: likewise with the side from the tip to the left end.
+fn is_left_live(
+    field: Field,
+    bound: Elem,
+    entry: &Entry,
+    tip: V2,
+    within: Option<bool>,
+    reached: bool,
+) -> Result<bool, Place>
+    requires ends { TellsEnds field.d bound entry.now }
+    requires within { within ≡ known_within field.d bound tip }
+    ensures { result ≡ side_within 33 field.d bound tip entry.now.left_end reached }
+{
+    let is_near = is_near(within, entry.left_within);
+    is_side_within(33, field, bound, tip, entry.left_end, reached, is_near)
 }
 
 // Whether a side with these ends is known to come within the bound: its first end does, or the second where the first is
