@@ -1,6 +1,7 @@
 pub mod OrderedLists
 pub mod WordsBefore
 pub mod Extensions
+pub mod KnownEnds
 pub mod VisitedWords
 pub mod SeenRays
 pub mod VisitMeanings

@@ -30,7 +30,7 @@ module _ {d : ℕ} (radicand : IsRadicand d) (t : Triangulation) (triangles : Ar
 
   module _ (n : ℕ) (entries : List Entry) (found : List Ray) (live : ℕ) (s : Searches d t bound n entries found live) (empty : entries ≡ []) where
     visited : AreVisited d t bound n s.words []
-    visited = subst (AreVisited d t bound n s.words) (nil_of_map (word_entry d t) s.stack (sym s.entries_are ∙ empty)) s.visited
+    visited = subst (AreVisited d t bound n s.words) (nil_of_map (word_entry d t bound) s.stack (sym s.entries_are ∙ empty)) s.visited
 
     below : (u : Word) → IsIn u s.words ↔ (IsLiveWord d t bound u × (u.half_edge < n))
     below = visited_words.visited_below (field_order radicand) t triangles bound n s.words visited

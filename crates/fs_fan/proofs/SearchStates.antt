@@ -21,7 +21,7 @@ use Rattle.fs_fan.specs.declared.visits.Opening.{Opening}
 use Rattle.fs_fan.specs.declared.visits.Visit.{Visit}
 use Rattle.fs_fan.specs.Visits.{is_left_of, view_of, opening, visit}
 use Rattle.fs_fan.specs.Search.{Word, IsBefore, Sighting, IsLiveWord, ray_of, HasOpenings, HasVisits, visit_of}
-use Rattle.fs_fan.specs.Entries.{view_at, entry_of, word_entry, optional}
+use Rattle.fs_fan.specs.Entries.{view_at, entry_of, word_entry, TellsEnds, optional}
 use Rattle.fs_fan.specs.Searching.{AreVisited, AreSeen, IsPassed, Searches}
 use Rattle.fs_fan.proofs.OrderedLists.{in_last, in_more_cases, map-optional, last_of_map}
 use Rattle.fs_fan.proofs.Extensions.{with_letter, stack_after}
@@ -73,8 +73,8 @@ module _ (d : ℕ) (t : Triangulation) (bound : Quadratic) where
     pub sightings : List Sighting
     pub visited : AreVisited d t bound n words (waiting ++ next ∷ [])
     pub seen : AreSeen d t bound n words sightings
-    pub rest_are : rest ≡ map (word_entry d t) waiting
-    pub entry_is : entry ≡ word_entry d t next
+    pub rest_are : rest ≡ map (word_entry d t bound) waiting
+    pub entry_is : entry ≡ word_entry d t bound next
     pub found_are : found ≡ map (ray_of d t) sightings
     pub live_is : live ≡ length words
     pub openings : HasOpenings d t bound n
@@ -83,7 +83,7 @@ module _ (d : ℕ) (t : Triangulation) (bound : Quadratic) where
   -- there is one where the stack isn't empty
   pub next_word : (n : ℕ) (rest : List Entry) (entry : Entry) (found : List Ray) (live : ℕ) → Searches d t bound n (rest ++ entry ∷ []) found live → NextWord n rest entry found live
   next_word n rest entry found live s =
-      let last = last_of_map (word_entry d t) rest entry s.stack s.entries_are in
+      let last = last_of_map (word_entry d t bound) rest entry s.stack s.entries_are in
       record {
         words = s.words;
         waiting = last.before;
@@ -118,7 +118,7 @@ module _ {d : ℕ} (radicand : IsRadicand d) (t : Triangulation) (triangles : Ar
   module _ (n : ℕ) (entries : List Entry) (found : List Ray) (live : ℕ) (s : Searches d t bound n entries found live) (empty : entries ≡ []) (there : n < length t.vectors)
       (o : Opening) (known : opening d t bound n ≡ Ok o) where
     abbrev first : Entry
-    first = entry_of (first_view (quadratic d) (is_left_of d) (face_sides t) n)
+    first = entry_of d bound (first_view (quadratic d) (is_left_of d) (face_sides t) n)
 
     opened : HasOpenings d t bound (n + 1)
     opened h l = elim (cases_order h n) [
@@ -132,7 +132,7 @@ module _ {d : ℕ} (radicand : IsRadicand d) (t : Triangulation) (triangles : Ar
         → Searches d t bound (n + 1) entries_now found_now live
     search_opened entries_now found_now more_entries more_found =
         let tells = meanings.opening_tells radicand t triangles bound n there o known in
-        let no_stack = nil_of_map (word_entry d t) s.stack (sym s.entries_are ∙ empty) in
+        let no_stack = nil_of_map (word_entry d t bound) s.stack (sym s.entries_are ∙ empty) in
         let visited = subst (AreVisited d t bound n s.words) no_stack s.visited in
         let word = visited_words.first_word (field_order radicand) t triangles bound n in
         let at = seen_rays.along d t bound n in
@@ -142,7 +142,7 @@ module _ {d : ℕ} (radicand : IsRadicand d) (t : Triangulation) (triangles : Ar
           sightings = s.sightings ++ optional o.found at;
           visited = visited_words.visited_opened (field_order radicand) t triangles bound n s.words visited o.live tells.1;
           seen = seen_rays.seen_opened d t bound n s.words s.sightings s.visited.below s.seen o.found tells.0;
-          entries_are = more_entries ∙ ap (λ es. es ++ optional o.live first) empty ∙ sym (map-optional (word_entry d t) o.live word);
+          entries_are = more_entries ∙ ap (λ es. es ++ optional o.live first) empty ∙ sym (map-optional (word_entry d t bound) o.live word);
           found_are =
               more_found ∙ ap (λ rays. rays ++ optional o.found (ray_of d t at)) s.found_are
               ∙ ap (λ rays. map (ray_of d t) s.sightings ++ rays) (sym (map-optional (ray_of d t) o.found at))
@@ -164,6 +164,12 @@ module _ {d : ℕ} (radicand : IsRadicand d) (t : Triangulation) (triangles : Ar
       (number_of_side t (view_of d t w.half_edge w.letters).crossing.side
       (crossings.view_side (field_order radicand) triangles (is_left_of d) w.half_edge (side_of_number t w.half_edge there) w.letters))
 
+  -- what it tells of its ends is so
+  pub entry_ends : (n : ℕ) (rest : List Entry) (entry : Entry) (found : List Ray) (live : ℕ) → Searches d t bound n (rest ++ entry ∷ []) found live → TellsEnds d bound entry
+  entry_ends n rest entry found live searches =
+      let s = next_word d t bound n rest entry found live searches in
+      subst (TellsEnds d bound) (sym s.entry_is) (record { right = refl; left = refl })
+
   module _ (n : ℕ) (rest : List Entry) (entry : Entry) (found : List Ray) (live : ℕ) (searches : Searches d t bound n (rest ++ entry ∷ []) found live)
       (v : Visit) (known : visit d t bound (view_at entry) ≡ Ok v) where
     abbrev s : NextWord d t bound n rest entry found live
@@ -182,13 +188,13 @@ module _ {d : ℕ} (radicand : IsRadicand d) (t : Triangulation) (triangles : Ar
     last = next_last d t bound n rest entry found live s
 
     abbrev entry_after : Letter → Entry
-    entry_after letter = entry_of (view_after (quadratic d) (is_left_of d) (face_sides t) (view_at entry) letter)
+    entry_after letter = entry_of d bound (view_after (quadratic d) (is_left_of d) (face_sides t) (view_at entry) letter)
 
     -- the entry of the word with one letter more
-    entry_is_after : (letter : Letter) → word_entry d t (with_letter w letter) ≡ entry_after letter
+    entry_is_after : (letter : Letter) → word_entry d t bound (with_letter w letter) ≡ entry_after letter
     entry_is_after letter =
-        ap entry_of (crossings.last_view-snoc (quadratic d) (face_sides t) (is_left_of d) w.half_edge w.letters letter)
-        ∙ ap (λ e. entry_of (view_after (quadratic d) (is_left_of d) (face_sides t) (view_at e) letter)) (sym s.entry_is)
+        ap (entry_of d bound) (crossings.last_view-snoc (quadratic d) (face_sides t) (is_left_of d) w.half_edge w.letters letter)
+        ∙ ap (λ e. entry_of d bound (view_after (quadratic d) (is_left_of d) (face_sides t) (view_at e) letter)) (sym s.entry_is)
 
     visited_all : HasVisits d t bound (s.words ++ w ∷ [])
     visited_all u m = elim (in_more_cases s.words w u m) [
@@ -196,12 +202,12 @@ module _ {d : ℕ} (radicand : IsRadicand d) (t : Triangulation) (triangles : Ar
       | inr e ↦ subst (λ x. IsOk (visit_of d t bound x)) (sym e) (subst IsOk (sym word_known) refl)
     ]
 
-    stack_entries : map (word_entry d t) (stack_after s.waiting w v.left v.right) ≡ (rest ++ optional v.left (entry_after left)) ++ optional v.right (entry_after right)
+    stack_entries : map (word_entry d t bound) (stack_after s.waiting w v.left v.right) ≡ (rest ++ optional v.left (entry_after left)) ++ optional v.right (entry_after right)
     stack_entries =
-        map-append (word_entry d t) (s.waiting ++ optional v.left (with_letter w left)) (optional v.right (with_letter w right))
-        ∙ ap (λ es. es ++ map (word_entry d t) (optional v.right (with_letter w right))) (map-append (word_entry d t) s.waiting (optional v.left (with_letter w left)))
-        ∙ (λ i. (sym s.rest_are i ++ (map-optional (word_entry d t) v.left (with_letter w left) ∙ ap (optional v.left) (entry_is_after left)) i)
-        ++ (map-optional (word_entry d t) v.right (with_letter w right) ∙ ap (optional v.right) (entry_is_after right)) i)
+        map-append (word_entry d t bound) (s.waiting ++ optional v.left (with_letter w left)) (optional v.right (with_letter w right))
+        ∙ ap (λ es. es ++ map (word_entry d t bound) (optional v.right (with_letter w right))) (map-append (word_entry d t bound) s.waiting (optional v.left (with_letter w left)))
+        ∙ (λ i. (sym s.rest_are i ++ (map-optional (word_entry d t bound) v.left (with_letter w left) ∙ ap (optional v.left) (entry_is_after left)) i)
+        ++ (map-optional (word_entry d t bound) v.right (with_letter w right) ∙ ap (optional v.right) (entry_is_after right)) i)
 
     -- the next word is visited
     pub search_visited : (h : ℕ) (entries_now : List Entry) (found_now : List Ray) (live_now : ℕ) → h + 1 ≡ n

@@ -58,7 +58,7 @@ module _ (d : ℕ) (t : Triangulation) (bound : Quadratic) where
     pub sightings : List Sighting
     pub visited : AreVisited n words stack
     pub seen : AreSeen n words sightings
-    pub entries_are : entries ≡ map (word_entry d t) stack
+    pub entries_are : entries ≡ map (word_entry d t bound) stack
     pub found_are : found ≡ map (ray_of d t) sightings
     pub live_is : live ≡ length words
     pub openings : HasOpenings d t bound n

@@ -1,8 +1,7 @@
 // The search through all live words.
 
-ghost use Rattle.std.specs.Prelude.{◌≡◌, ◌↔◌, ◌+◌, ◌<◌, ◌≤◌, cond, ℕ, Result, [], ◌∷◌, ◌++◌, length, IfOk, OnOk, IfErr};
-ghost use Rattle.fs_words.specs.Words.{right, left};
-ghost use Rattle.fs_words.specs.Sectors.{first_view, view_after};
+ghost use Rattle.std.specs.Prelude.{◌≡◌, ◌↔◌, ◌+◌, ◌<◌, ◌≤◌, cond, false, ℕ, Result, [], ◌∷◌, ◌++◌, length, IfOk, OnOk, IfErr};
+ghost use Rattle.fs_words.specs.Sectors.{first_view};
 ghost use Rattle.fs_quadratic.specs.Ring.{quadratic};
 ghost use Rattle.fs_gluing.specs.Triangulation.{face_sides};
 ghost use Rattle.fs_lists.specs.Members.{IsIn, IsDistinct};
@@ -11,10 +10,10 @@ ghost use Rattle.fs_plane.specs.Vector.{PlaneVector};
 ghost use Rattle.fs_mesh.specs.Meshes.{IsMesh};
 ghost use Rattle.fs_fan.specs.Visits.{is_left_of};
 ghost use Rattle.fs_fan.specs.Search.{Findings, EndsSearch, ReturnsSearch, IsShortSegment};
-ghost use Rattle.fs_fan.specs.Entries.{view_at, entry_of, optional, TellsTip};
+ghost use Rattle.fs_fan.specs.Entries.{entry_of, right_entry, left_entry, optional};
 ghost use Rattle.fs_fan.specs.Searching.{Searches, StopsSearch};
 
-use crate::visits::{Entry, Visit, find_opening, find_visit, half_edge_before};
+use crate::visits::{Entry, Sight, Visit, find_opening, find_visit, half_edge_before, is_within};
 use fs_gluing::Sequence;
 use fs_mesh::Mesh;
 use fs_plane::{Place, Site, Stop, V2};
@@ -89,11 +88,38 @@ fn find_fan(
     ensures stops { IfErr result (StopsSearch mesh.now.surface.d mesh.now.triangles bound budget) }
 {
     open_fan(mesh, bound, h, stack, fans)?;
-    while let Some(entry) = stack.pop() {
+    match stack.pop() {
+        Some(first) => visit_words(mesh, bound, budget, h, first, stack, fans),
+        None => Ok(()),
+    }
+}
+
+// Visits a live word, those that wait on the stack, and all live words that go on from them.
+fn visit_words(
+    mesh: &Mesh<'_>,
+    bound: Elem,
+    budget: u32,
+    h: u32,
+    first: Entry,
+    stack: &mut Vec<Entry>,
+    fans: &mut Fans,
+) -> Result<(), Stop>
+    requires mesh { IsMesh mesh.now }
+    requires state { Searches mesh.now.surface.d mesh.now.triangles bound (h + 1) (stack.old.items ++ first ∷ []) fans.old.found fans.old.live }
+    requires within { fans.old.live ≤ budget }
+    requires small { budget ≤ 1000000 }
+    ensures state { OnOk result (Searches mesh.now.surface.d mesh.now.triangles bound (h + 1) stack.new.items fans.new.found fans.new.live) }
+    ensures empty { OnOk result (stack.new.items ≡ []) }
+    ensures within { OnOk result (fans.new.live ≤ budget) }
+    ensures stops { IfErr result (StopsSearch mesh.now.surface.d mesh.now.triangles bound budget) }
+{
+    let mut entry = first;
+    let mut goes_on = true;
+    while goes_on {
         if fans.live == budget {
             return Err(Stop::Undecided(budget));
         }
-        visit_word(mesh, bound, h, &entry, stack, fans)?;
+        goes_on = visit_word(mesh, bound, h, &mut entry, stack, fans)?;
     }
     Ok(())
 }
@@ -121,25 +147,27 @@ fn open_fan(
         })),
         Ok(opening) => {
             add_ray(&mut fans.found, h, mesh.vector(h), opening.found)?;
-            push_first(mesh, h, opening.live, stack)?;
+            push_first(mesh, bound, h, opening.live, stack)?;
             Ok(())
         }
     }
 }
 
-// Visits a live word: its tip may be a ray, and it goes on with the words with one letter more that are live.
+// Visits a live word: its tip may be a ray, and it goes on with the words with one letter more that are live. The next
+// word takes its place, where one waits.
 fn visit_word(
     mesh: &Mesh<'_>,
     bound: Elem,
     h: u32,
-    entry: &Entry,
+    entry: &mut Entry,
     stack: &mut Vec<Entry>,
     fans: &mut Fans,
-) -> Result<(), Stop>
+) -> Result<bool, Stop>
     requires mesh { IsMesh mesh.now }
-    requires state { Searches mesh.now.surface.d mesh.now.triangles bound (h + 1) (stack.old.items ++ entry.now ∷ []) fans.old.found fans.old.live }
+    requires state { Searches mesh.now.surface.d mesh.now.triangles bound (h + 1) (stack.old.items ++ entry.old ∷ []) fans.old.found fans.old.live }
     requires few { fans.old.live < 1000000 }
-    ensures state { OnOk result (Searches mesh.now.surface.d mesh.now.triangles bound (h + 1) stack.new.items fans.new.found fans.new.live) }
+    ensures state { IfOk result (λ goes_on. Searches mesh.now.surface.d mesh.now.triangles bound (h + 1) (stack.new.items ++ optional goes_on entry.new) fans.new.found fans.new.live) }
+    ensures empty { IfOk result (λ goes_on. goes_on ≡ false → stack.new.items ≡ []) }
     ensures live { OnOk result (fans.new.live ≡ fans.old.live + 1) }
     ensures stops { IfErr result (λ stop. (budget : ℕ) → fans.old.live < budget → StopsSearch mesh.now.surface.d mesh.now.triangles bound budget stop) }
 {
@@ -148,14 +176,19 @@ fn visit_word(
             word: fans.live,
             place,
         })),
-        Ok(visit) => {
-            add_ray(&mut fans.found, h, visit.tip, visit.found)?;
-            push_left(mesh, entry, &visit, stack)?;
-            push_right(mesh, entry, &visit, stack)?;
+        Ok(sight) => {
+            add_tip(&mut fans.found, h, &sight.visit)?;
             fans.live += 1;
-            Ok(())
+            Ok(go_on(mesh, entry, &sight, stack)?)
         }
     }
+}
+
+// Adds the ray to the tip of a word, where it is found.
+fn add_tip(found: &mut Sequence<Ray>, half_edge: u32, visit: &Visit) -> Result<(), AllocError>
+    ensures { OnOk result (found.new ≡ found.old ++ optional visit.now.found (record { half_edge = half_edge; v = visit.now.tip })) }
+{
+    add_ray(found, half_edge, visit.tip, visit.found)
 }
 
 // Adds a ray to the list, where it is found.
@@ -176,21 +209,24 @@ fn add_ray(
 // Pushes the first word of a half-edge, where it is live.
 fn push_first(
     mesh: &Mesh<'_>,
+    bound: Elem,
     h: u32,
     is_live: bool,
     stack: &mut Vec<Entry>,
 ) -> Result<(), AllocError>
     requires { h < length mesh.now.triangles.vectors }
-    ensures { OnOk result (stack.new.items ≡ stack.old.items ++ optional is_live (entry_of (first_view (quadratic mesh.now.surface.d) (is_left_of mesh.now.surface.d) (face_sides mesh.now.triangles) h))) }
+    ensures { OnOk result (stack.new.items ≡ stack.old.items ++ optional is_live (entry_of mesh.now.surface.d bound (first_view (quadratic mesh.now.surface.d) (is_left_of mesh.now.surface.d) (face_sides mesh.now.triangles) h))) }
 {
     if !is_live {
         return Ok(());
     }
-    let side = mesh.next(h);
+    let field = mesh.surface().field();
     let right = mesh.vector(h);
     let left = mesh.vector(half_edge_before(mesh, h)).neg();
     stack.push(Entry {
-        side,
+        side: mesh.next(h),
+        right_within: is_within(field, bound, right),
+        left_within: is_within(field, bound, left),
         right_end: right,
         left_end: left,
         right_bound: right,
@@ -199,52 +235,69 @@ fn push_first(
     Ok(())
 }
 
-// Pushes the word with the letter right more, where it is live.
-fn push_right(
+// Goes on from a word that was visited: with those of its words with one letter more that are live, that with right
+// first, while that with left waits; or with the last word that waits. The next word takes the entry's place, where there
+// is one.
+fn go_on(
     mesh: &Mesh<'_>,
-    entry: &Entry,
-    visit: &Visit,
+    entry: &mut Entry,
+    sight: &Sight,
     stack: &mut Vec<Entry>,
-) -> Result<(), AllocError>
-    requires there { entry.now.side < length mesh.now.triangles.vectors }
-    requires tip { TellsTip mesh.now.surface.d mesh.now.triangles (view_at entry.now) visit.now }
-    ensures { OnOk result (stack.new.items ≡ stack.old.items ++ optional visit.now.right (entry_of (view_after (quadratic mesh.now.surface.d) (is_left_of mesh.now.surface.d) (face_sides mesh.now.triangles) (view_at entry.now) right))) }
+) -> Result<bool, AllocError>
+    requires { entry.old.side < length mesh.now.triangles.vectors }
+    ensures next { IfOk result (λ goes_on. stack.new.items ++ optional goes_on entry.new ≡ stack.old.items ++ optional sight.now.visit.left (left_entry mesh.now.triangles entry.old sight.now) ++ optional sight.now.visit.right (right_entry mesh.now.triangles entry.old sight.now)) }
+    ensures empty { IfOk result (λ goes_on. goes_on ≡ false → stack.new.items ≡ []) }
 {
-    if !visit.right {
-        return Ok(());
+    if sight.visit.right {
+        if sight.visit.left {
+            let mut waiting = *entry;
+            go_left(mesh, &mut waiting, sight);
+            stack.push(waiting)?;
+        }
+        go_right(mesh, entry, sight);
+        return Ok(true);
     }
-    stack.push(Entry {
-        side: mesh.next(mesh.twin(entry.side)),
-        right_end: entry.right_end,
-        left_end: visit.tip,
-        right_bound: entry.right_bound,
-        left_bound: choose(visit.past_left, visit.tip, entry.left_bound),
-    })?;
-    Ok(())
+    if sight.visit.left {
+        go_left(mesh, entry, sight);
+        return Ok(true);
+    }
+    Ok(take_last(entry, stack))
 }
 
-// Pushes the word with the letter left more, where it is live.
-fn push_left(
-    mesh: &Mesh<'_>,
-    entry: &Entry,
-    visit: &Visit,
-    stack: &mut Vec<Entry>,
-) -> Result<(), AllocError>
-    requires there { entry.now.side < length mesh.now.triangles.vectors }
-    requires tip { TellsTip mesh.now.surface.d mesh.now.triangles (view_at entry.now) visit.now }
-    ensures { OnOk result (stack.new.items ≡ stack.old.items ++ optional visit.now.left (entry_of (view_after (quadratic mesh.now.surface.d) (is_left_of mesh.now.surface.d) (face_sides mesh.now.triangles) (view_at entry.now) left))) }
+// Takes the last word that waits, where one does.
+fn take_last(entry: &mut Entry, stack: &mut Vec<Entry>) -> bool
+    ensures last { stack.old.items ≡ stack.new.items ++ optional result entry.new }
+    ensures empty { result ≡ false → stack.new.items ≡ [] }
 {
-    if !visit.left {
-        return Ok(());
+    match stack.pop() {
+        Some(last) => {
+            *entry = last;
+            true
+        }
+        None => false,
     }
-    stack.push(Entry {
-        side: half_edge_before(mesh, mesh.twin(entry.side)),
-        right_end: visit.tip,
-        left_end: entry.left_end,
-        right_bound: choose(visit.past_right, visit.tip, entry.right_bound),
-        left_bound: entry.left_bound,
-    })?;
-    Ok(())
+}
+
+// Goes on to the word with the letter right more.
+fn go_right(mesh: &Mesh<'_>, entry: &mut Entry, sight: &Sight)
+    requires { entry.old.side < length mesh.now.triangles.vectors }
+    ensures { entry.new ≡ right_entry mesh.now.triangles entry.old sight.now }
+{
+    entry.side = mesh.next(mesh.twin(entry.side));
+    entry.left_within = sight.within;
+    entry.left_end = sight.visit.tip;
+    entry.left_bound = choose(sight.visit.past_left, sight.visit.tip, entry.left_bound);
+}
+
+// Goes on to the word with the letter left more.
+fn go_left(mesh: &Mesh<'_>, entry: &mut Entry, sight: &Sight)
+    requires { entry.old.side < length mesh.now.triangles.vectors }
+    ensures { entry.new ≡ left_entry mesh.now.triangles entry.old sight.now }
+{
+    entry.side = half_edge_before(mesh, mesh.twin(entry.side));
+    entry.right_within = sight.within;
+    entry.right_end = sight.visit.tip;
+    entry.right_bound = choose(sight.visit.past_right, sight.visit.tip, entry.right_bound);
 }
 
 // The tip where it narrows the sector, else the bound.

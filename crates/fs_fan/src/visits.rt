@@ -1,9 +1,9 @@
 // What is computed at a half-edge, and at a live word.
 
-ghost use Rattle.std.specs.Prelude.{◌≡◌, ◌+◌, ◌<◌, ◌^◌, length};
+ghost use Rattle.std.specs.Prelude.{◌≡◌, ◌+◌, ◌<◌, ◌^◌, length, IfOk, MatchResult};
 ghost use Rattle.fs_gluing.specs.Triangulation.{prev_in_face};
 ghost use Rattle.fs_fan.specs.Visits.{opening, tip_within, side_within, visit};
-ghost use Rattle.fs_fan.specs.Entries.{view_at};
+ghost use Rattle.fs_fan.specs.Entries.{view_at, known_within, is_known_near, TellsEnds};
 
 use fs_mesh::Mesh;
 use fs_plane::steps::{comes_within_after, cross_after, norm_after, vector_sum_after};
@@ -19,10 +19,13 @@ pub struct Opening {
     pub live: bool,
 }
 
-// The last crossing of a live word, with the bounds of its sector.
+// The last crossing of a live word, with the bounds of its sector. Of each end it tells whether its squared length is at
+// most the bound of the search, where that doesn't overflow.
 #[derive(Clone, Copy)]
 pub struct Entry {
     pub side: u32,
+    pub right_within: Option<bool>,
+    pub left_within: Option<bool>,
     pub right_end: V2,
     pub left_end: V2,
     pub right_bound: V2,
@@ -39,6 +42,13 @@ pub struct Visit {
     pub found: bool,
     pub right: bool,
     pub left: bool,
+}
+
+// A visit, and whether the tip's squared length is at most the bound, where that doesn't overflow.
+#[derive(Clone, Copy)]
+pub struct Sight {
+    pub visit: Visit,
+    pub within: Option<bool>,
 }
 
 // The half-edge before one in its face.
@@ -69,11 +79,23 @@ pub fn find_opening(mesh: &Mesh<'_>, bound: Elem, h: u32) -> Result<Opening, Pla
     })
 }
 
+// Whether the squared length of v is at most the bound, where it doesn't overflow.
+pub fn is_within(field: Field, bound: Elem, v: V2) -> Option<bool>
+    ensures { result ≡ known_within field.d bound v }
+{
+    match norm_after(0, field, v) {
+        Ok(length) => Some(field.cmp(length, bound).is_le()),
+        Err(_) => None,
+    }
+}
+
 // The visit of a live word, by its last crossing.
 #[tactic(auto, unfolding(crate::specs::Visits::visit))]
-pub fn find_visit(mesh: &Mesh<'_>, bound: Elem, entry: &Entry) -> Result<Visit, Place>
-    requires { entry.now.side < length mesh.now.triangles.vectors }
-    ensures { result ≡ visit mesh.now.surface.d mesh.now.triangles bound (view_at entry.now) }
+pub fn find_visit(mesh: &Mesh<'_>, bound: Elem, entry: &Entry) -> Result<Sight, Place>
+    requires there { entry.now.side < length mesh.now.triangles.vectors }
+    requires ends { TellsEnds mesh.now.surface.d bound entry.now }
+    ensures visit { MatchResult result (λ sight. visit mesh.now.surface.d mesh.now.triangles bound (view_at entry.now) ≡ Ok sight.visit) (λ stop. visit mesh.now.surface.d mesh.now.triangles bound (view_at entry.now) ≡ Err stop) }
+    ensures within { IfOk result (λ sight. sight.within ≡ known_within mesh.now.surface.d bound sight.visit.tip) }
 {
     let field = mesh.surface().field();
     let beyond = mesh.vector(mesh.next(mesh.twin(entry.side)));
@@ -82,29 +104,90 @@ pub fn find_visit(mesh: &Mesh<'_>, bound: Elem, entry: &Entry) -> Result<Visit, 
     let left_turn = cross_after(5, field, tip, entry.left_bound)?;
     let past_right = field.sign(right_turn) == Ordering::Greater;
     let past_left = field.sign(left_turn) == Ordering::Greater;
-    let found = is_tip_within(field, bound, tip, past_right && past_left)?;
-    let right = is_side_within(11, field, bound, entry.right_end, tip, past_right)?;
-    let left = is_side_within(33, field, bound, tip, entry.left_end, past_left)?;
-    Ok(Visit {
+    let within = is_within(field, bound, tip);
+    let found = is_tip_within(field, bound, tip, within, past_right && past_left)?;
+    let right = is_right_live(field, bound, entry, tip, within, past_right)?;
+    let left = is_left_live(field, bound, entry, tip, within, past_left)?;
+    let visit = Visit {
         tip,
         past_right,
         past_left,
         found,
         right,
         left,
-    })
+    };
+    Ok(Sight { visit, within })
 }
 
 // Whether a tip is within the bound, where it is in the sector.
 #[tactic(auto, unfolding(crate::specs::Visits::tip_within))]
-fn is_tip_within(field: Field, bound: Elem, tip: V2, in_sector: bool) -> Result<bool, Place>
+fn is_tip_within(
+    field: Field,
+    bound: Elem,
+    tip: V2,
+    within: Option<bool>,
+    in_sector: bool,
+) -> Result<bool, Place>
+    requires { within ≡ known_within field.d bound tip }
     ensures { result ≡ tip_within field.d bound tip in_sector }
 {
     if !in_sector {
         return Ok(false);
     }
-    let length = norm_after(8, field, tip)?;
-    Ok(field.cmp(length, bound).is_le())
+    match within {
+        Some(is_within) => Ok(is_within),
+        None => {
+            let length = norm_after(8, field, tip)?;
+            Ok(field.cmp(length, bound).is_le())
+        }
+    }
+}
+
+// Whether the word with the letter right more is live: the sector reaches the side from the right end to the tip, and the
+// side comes within the bound.
+fn is_right_live(
+    field: Field,
+    bound: Elem,
+    entry: &Entry,
+    tip: V2,
+    within: Option<bool>,
+    reached: bool,
+) -> Result<bool, Place>
+    requires ends { TellsEnds field.d bound entry.now }
+    requires within { within ≡ known_within field.d bound tip }
+    ensures { result ≡ side_within 11 field.d bound entry.now.right_end tip reached }
+{
+    let is_near = is_near(entry.right_within, within);
+    is_side_within(11, field, bound, entry.right_end, tip, reached, is_near)
+}
+
+// Whether the word with the letter left more is live: likewise with the side from the tip to the left end.
+fn is_left_live(
+    field: Field,
+    bound: Elem,
+    entry: &Entry,
+    tip: V2,
+    within: Option<bool>,
+    reached: bool,
+) -> Result<bool, Place>
+    requires ends { TellsEnds field.d bound entry.now }
+    requires within { within ≡ known_within field.d bound tip }
+    ensures { result ≡ side_within 33 field.d bound tip entry.now.left_end reached }
+{
+    let is_near = is_near(within, entry.left_within);
+    is_side_within(33, field, bound, tip, entry.left_end, reached, is_near)
+}
+
+// Whether a side with these ends is known to come within the bound: its first end does, or the second where the first is
+// known not to.
+fn is_near(start: Option<bool>, end: Option<bool>) -> bool
+    ensures { result ≡ is_known_near start end }
+{
+    match (start, end) {
+        (Some(true), _) => true,
+        (Some(false), Some(true)) => true,
+        _ => false,
+    }
 }
 
 // Whether a half-edge beyond comes within the bound, where the sector reaches it.
@@ -116,12 +199,17 @@ fn is_side_within(
     p: V2,
     q: V2,
     reached: bool,
+    is_near: bool,
 ) -> Result<bool, Place>
-    requires { before + 22 < 2 ^ 32 }
+    requires room { before + 22 < 2 ^ 32 }
+    requires near { is_near ≡ is_known_near (known_within field.d bound p) (known_within field.d bound q) }
     ensures { result ≡ side_within before field.d bound p q reached }
 {
     if !reached {
         return Ok(false);
+    }
+    if is_near {
+        return Ok(true);
     }
     comes_within_after(before, field, p, q, bound)
 }

@@ -48,8 +48,8 @@ module _ {d : ℕ} (radicand : IsRadicand d) (t : Triangulation) (triangles : Ar
       by : (r : Result Visit Place) → visit d t bound (view_at entry) ≡ r → HasEnd
       by (Err place) known = (Err (Overflow (Fan live place.0)), ends_at_visit radicand t triangles bound budget (h + 1) rest entry found live s (omega arith) place known)
       by (Ok v) known =
-          let left_entry = entry_of (view_after (quadratic d) (is_left_of d) (face_sides t) (view_at entry) left) in
-          let right_entry = entry_of (view_after (quadratic d) (is_left_of d) (face_sides t) (view_at entry) right) in
+          let left_entry = entry_of d bound (view_after (quadratic d) (is_left_of d) (face_sides t) (view_at entry) left) in
+          let right_entry = entry_of d bound (view_after (quadratic d) (is_left_of d) (face_sides t) (view_at entry) right) in
           let entries = (rest ++ optional v.left left_entry) ++ optional v.right right_entry in
           let rays = found ++ optional v.found (record { half_edge = h; v = v.tip }) in
           on entries rays (live + 1) (search_visited radicand t triangles bound (h + 1) rest entry found live s v known h entries rays (live + 1) refl refl refl refl) (omega arith)
@@ -71,7 +71,7 @@ module _ {d : ℕ} (radicand : IsRadicand d) (t : Triangulation) (triangles : Ar
       by : (r : Result Opening Place) → opening d t bound n ≡ r → HasEnd
       by (Err place) known = (Err (Overflow (First n place.0)), ends_at_opening radicand t triangles bound budget n [] found live s refl (omega arith) there place known)
       by (Ok o) known =
-          let entries = optional o.live (entry_of (first_view (quadratic d) (is_left_of d) (face_sides t) n)) in
+          let entries = optional o.live (entry_of d bound (first_view (quadratic d) (is_left_of d) (face_sides t) n)) in
           let rays = found ++ optional o.found (record { half_edge = n; v = edge_vector t n }) in
           visits_end n on k entries rays live (search_opened radicand t triangles bound n [] found live s refl there o known entries rays refl refl) few
 
