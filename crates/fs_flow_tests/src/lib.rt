@@ -1,0 +1,15 @@
+// Tests of public calls of fs_iet: surfaces and directions, the letters of their exchanges, and images of positions.
+#![tactic(auto)]
+
+#[cfg(test)]
+mod common;
+#[cfg(test)]
+mod exchanges;
+#[cfg(test)]
+mod images;
+#[cfg(test)]
+mod l_exchanges;
+#[cfg(test)]
+mod l_images;
+#[cfg(test)]
+mod plans;
