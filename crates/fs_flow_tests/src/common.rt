@@ -5,7 +5,7 @@ ghost use Rattle.fs_gluing.specs.Shape.{IsWithinLimits};
 use fs_fraction::Frac;
 use fs_gluing::{Glue, Point, Sequence, Shape, Surface, build};
 use fs_iet::{Exchange, Tag, find_exchange};
-use fs_plane::{Corner, Place, Stop, V2};
+use fs_plane::{Corner, Place, Site, Stop, V2};
 use fs_quadratic::{Elem, Field};
 use std::alloc::{AllocError, Global};
 use std::cmp::Ordering;
@@ -52,6 +52,23 @@ pub struct Moves {
     pub images: &'static [(Pair, Pair)],
     pub orbits: &'static [&'static [Pair]],
 }
+
+// What the search for an exchange returns: the sum of its lengths, or the polygon, the side and the place of a site.
+pub enum Found {
+    Total(Pair),
+    Letter(u32, u32, u32),
+    Shift(u32, u32, u32),
+}
+
+// A direction, and what the search for its exchange returns.
+pub type Sites = (Vector, Found);
+
+// 2^127 - 1, the greatest part of a number, and 2^126 and the number below it.
+pub const MOST: i128 = 170141183460469231731687303715884105727;
+
+pub const HALF: i128 = 85070591730234615865843651857942052864;
+
+pub const BELOW_HALF: i128 = 85070591730234615865843651857942052863;
 
 // The number of these parts.
 pub fn elem(rt: &impl Abort, parts: Pair) -> Elem {
@@ -157,7 +174,7 @@ pub fn surface_of(rt: &impl Abort, alloc: Global, plan: &Plan) -> Result<Surface
 }
 
 // What the search for an exchange returns.
-pub fn found(
+pub fn search(
     rt: &impl Abort,
     alloc: Global,
     surface: &Surface,
@@ -170,7 +187,7 @@ pub fn found(
 
 // The exchange of a surface in a direction in which nothing overflows.
 pub fn exchange_of(rt: &impl Abort, alloc: Global, surface: &Surface, v: Vector) -> Exchange {
-    found(rt, alloc, surface, v).expect(rt, "an exchange")
+    search(rt, alloc, surface, v).expect(rt, "an exchange")
 }
 
 // That a letter of an exchange, and the one at its place in the bottom row, are as told.
@@ -282,6 +299,53 @@ pub fn expect_images(
         for orbit in moves.orbits {
             expect_orbit(rt, &exchange, orbit);
         }
+    }
+    Ok(())
+}
+
+// Whether what the search for an exchange returns is as a row tells.
+fn is_found(rt: &impl Abort, returned: &Result<Exchange, Stop>, told: &Found) -> bool {
+    match (returned, told) {
+        (Ok(exchange), Found::Total(total)) => exchange.total() == elem(rt, *total),
+        (
+            Err(
+                Stop::Overflow(
+                    Site::Letter {
+                        polygon,
+                        side,
+                        place,
+                    },
+                ),
+            ),
+            Found::Letter(i, j, p),
+        ) => polygon == i && side == j && place == p,
+        (
+            Err(
+                Stop::Overflow(
+                    Site::Shift {
+                        polygon,
+                        side,
+                        place,
+                    },
+                ),
+            ),
+            Found::Shift(i, j, p),
+        ) => polygon == i && side == j && place == p,
+        _ => false,
+    }
+}
+
+// That what the search for an exchange returns on the surface of a plan is as the rows tell.
+pub fn expect_sites(
+    rt: &impl Abort,
+    alloc: Global,
+    plan: &Plan,
+    rows: &[Sites],
+) -> Result<(), Fail> {
+    let surface = surface_of(rt, alloc, plan)?;
+    for (row, (v, told)) in rows.iter().enumerate() {
+        let returned = search(rt, alloc, &surface, *v);
+        assert!(rt; is_found(rt, &returned, told), "row {row}");
     }
     Ok(())
 }

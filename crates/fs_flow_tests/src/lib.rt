@@ -12,4 +12,10 @@ mod l_exchanges;
 #[cfg(test)]
 mod l_images;
 #[cfg(test)]
+mod large_exchanges;
+#[cfg(test)]
 mod plans;
+#[cfg(test)]
+mod sites;
+#[cfg(test)]
+mod wide_plans;
