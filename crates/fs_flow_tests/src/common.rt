@@ -70,6 +70,18 @@ pub const HALF: i128 = 85070591730234615865843651857942052864;
 
 pub const BELOW_HALF: i128 = 85070591730234615865843651857942052863;
 
+// The image of a position, or the place where it overflows.
+pub enum Shown {
+    At(Pair),
+    Overflow(u32),
+}
+
+// Positions of an exchange, by its direction, and what their images return.
+pub struct Places {
+    pub v: Vector,
+    pub images: &'static [(Pair, Shown)],
+}
+
 // The number of these parts.
 pub fn elem(rt: &impl Abort, parts: Pair) -> Elem {
     assert!(rt; parts.0 != i128::MIN);
@@ -190,8 +202,8 @@ pub fn exchange_of(rt: &impl Abort, alloc: Global, surface: &Surface, v: Vector)
     search(rt, alloc, surface, v).expect(rt, "an exchange")
 }
 
-// That a letter of an exchange, and the one at its place in the bottom row, are as told.
-fn expect_letter(rt: &impl Abort, exchange: &Exchange, n: u32, letter: &Letter, bottom: u32) {
+// That a letter of an exchange is as told.
+pub fn expect_letter(rt: &impl Abort, exchange: &Exchange, n: u32, letter: &Letter) {
     let (length, back, start, (from_start, start_real), (to_end, end_real)) = *letter;
     assert!(rt; n < exchange.letters());
     assert!(rt;
@@ -216,7 +228,12 @@ fn expect_letter(rt: &impl Abort, exchange: &Exchange, n: u32, letter: &Letter, 
         real: end_real,
     };
     assert!(rt; exchange.end_tag(n) == end_tag, "end of letter {n}");
-    assert!(rt; exchange.bottom(n) == bottom, "place {n} of the bottom row");
+}
+
+// That the letter at a place of the bottom row is as told.
+pub fn expect_bottom(rt: &impl Abort, exchange: &Exchange, n: u32, letter: u32) {
+    assert!(rt; n < exchange.letters());
+    assert!(rt; exchange.bottom(n) == letter, "place {n} of the bottom row");
 }
 
 // That an exchange is as a row tells.
@@ -237,7 +254,8 @@ fn expect_exchange(rt: &impl Abort, exchange: &Exchange, row: usize, told: &Told
         let k = n as usize;
         assert!(rt; k < told.letters.len(), "row {row}");
         assert!(rt; k < told.bottom.len(), "row {row}");
-        expect_letter(rt, exchange, n, &told.letters[k], told.bottom[k]);
+        expect_letter(rt, exchange, n, &told.letters[k]);
+        expect_bottom(rt, exchange, n, told.bottom[k]);
     }
 }
 
@@ -335,6 +353,12 @@ fn is_found(rt: &impl Abort, returned: &Result<Exchange, Stop>, told: &Found) ->
     }
 }
 
+// That what the search for an exchange returns on a surface is as told.
+pub fn expect_found(rt: &impl Abort, alloc: Global, surface: &Surface, v: Vector, told: &Found) {
+    let returned = search(rt, alloc, surface, v);
+    assert!(rt; is_found(rt, &returned, told), "exchange along {v:?}");
+}
+
 // That what the search for an exchange returns on the surface of a plan is as the rows tell.
 pub fn expect_sites(
     rt: &impl Abort,
@@ -343,9 +367,35 @@ pub fn expect_sites(
     rows: &[Sites],
 ) -> Result<(), Fail> {
     let surface = surface_of(rt, alloc, plan)?;
-    for (row, (v, told)) in rows.iter().enumerate() {
-        let returned = search(rt, alloc, &surface, *v);
-        assert!(rt; is_found(rt, &returned, told), "row {row}");
+    for (v, told) in rows {
+        expect_found(rt, alloc, &surface, *v, told);
+    }
+    Ok(())
+}
+
+// That what the image of a position returns is as told.
+pub fn expect_shown(rt: &impl Abort, exchange: &Exchange, y: Pair, shown: &Shown) {
+    let expected = match shown {
+        Shown::At(z) => Ok(elem(rt, *z)),
+        Shown::Overflow(place) => Err(Place(*place)),
+    };
+    let image = image_of(rt, exchange, elem(rt, y));
+    assert!(rt; image == expected, "image of {y:?}");
+}
+
+// That what the images of positions return under the exchanges of a plan's surface is as the rows tell.
+pub fn expect_places(
+    rt: &impl Abort,
+    alloc: Global,
+    plan: &Plan,
+    rows: &[Places],
+) -> Result<(), Fail> {
+    let surface = surface_of(rt, alloc, plan)?;
+    for places in rows {
+        let exchange = exchange_of(rt, alloc, &surface, places.v);
+        for (y, shown) in places.images {
+            expect_shown(rt, &exchange, *y, shown);
+        }
     }
     Ok(())
 }

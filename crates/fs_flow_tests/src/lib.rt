@@ -6,6 +6,8 @@ mod common;
 #[cfg(test)]
 mod exchanges;
 #[cfg(test)]
+mod image_places;
+#[cfg(test)]
 mod images;
 #[cfg(test)]
 mod l_exchanges;
@@ -13,6 +15,8 @@ mod l_exchanges;
 mod l_images;
 #[cfg(test)]
 mod large_exchanges;
+#[cfg(test)]
+mod many_sides;
 #[cfg(test)]
 mod plans;
 #[cfg(test)]
