@@ -278,7 +278,7 @@ pub fn expect_exchanges(
 // What the image of a position returns.
 pub fn image_of(rt: &impl Abort, exchange: &Exchange, y: Elem) -> Result<Elem, Place> {
     let field = exchange.field();
-    assert!(rt; field.sign(y) != Ordering::Less);
+    assert!(rt; field.cmp(y, Elem::ZERO) != Ordering::Less);
     assert!(rt; field.cmp(y, exchange.total()) == Ordering::Less);
     exchange.image(y)
 }

@@ -140,13 +140,22 @@ fn surface(rt: &impl Abort, alloc: Global) -> Result<Surface, Fail> {
     Ok(build(alloc, field, &shape).expect(rt, "a surface"))
 }
 
+// A small product.
+fn product(rt: &impl Abort, x: i64, y: i64) -> i64 {
+    x.checked_mul(y).expect(rt, "a small product")
+}
+
+// A small sum.
+fn sum(rt: &impl Abort, x: i64, y: i64) -> i64 {
+    x.checked_add(y).expect(rt, "a small sum")
+}
+
 // The cross product of side j of polygon 0 and a direction's whole vector.
 fn width(rt: &impl Abort, direction: &Direction, j: u16) -> i64 {
     let (a, b) = side(j);
     let (x, y) = direction.whole;
-    assert!(rt; -1000 <= x && x <= 1000);
-    assert!(rt; -1000 <= y && y <= 1000);
-    a * y - b * x
+    let (one, two) = (product(rt, a, y), product(rt, b, x));
+    one.checked_sub(two).expect(rt, "a small difference")
 }
 
 // The absolute value of that.
@@ -171,10 +180,10 @@ fn expect_side(rt: &impl Abort, exchange: &Exchange, direction: &Direction, n: u
     };
     let length = times(rt, size(rt, direction, j), direction.factor);
     let (at, after) = (position(j), position(j + 1));
-    let sum = (at.0 + after.0, at.1 + after.1);
+    let both = (sum(rt, at.0, after.0), sum(rt, at.1, after.1));
     let start = (vector_in(leaves, at), j != first_entered);
     let end = (vector_in(leaves, after), j != first_left);
-    let back = vector_in(leaves, sum);
+    let back = vector_in(leaves, both);
     expect_letter(rt, exchange, n, &(length, back, (enters, j), start, end));
 }
 
@@ -232,7 +241,7 @@ fn images(rt: HostRuntime) -> Result<(), Fail> {
         let mut left = 0i64;
         for n in 0..512 {
             let length = size(&rt, direction, 511 - n);
-            let right = left.checked_add(length).expect(&rt, "a small sum");
+            let right = sum(&rt, left, length);
             expect_ends(&rt, &exchange, direction, left, right);
             left = right;
         }
