@@ -1,4 +1,5 @@
 pub mod ExchangeSites
 pub mod ExchangeValue
+pub mod FirstReturns
 pub mod Images
 pub mod Rows
