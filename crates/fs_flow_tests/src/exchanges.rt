@@ -5,7 +5,7 @@ use crate::common::{Told, expect_exchanges};
 use crate::plans::{OCTAGON, PENTAGONS, SQUARE, STAIRCASE};
 use std::test::Fail;
 
-// On the unit square: along its sides, where one letter is left, and along (1, √2).
+// On the unit square: along its sides, where there is one letter, and along (1, √2).
 static SQUARE_EXCHANGES: [Told; 4] = [
     Told {
         v: ((1, 0), (0, 0)),

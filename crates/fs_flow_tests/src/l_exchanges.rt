@@ -5,7 +5,7 @@ use crate::common::{Told, expect_exchanges};
 use crate::plans::{L_ONE, L_THREE, L_TWO};
 use std::test::Fail;
 
-// On the L as one polygon: its straight corners stand in rows of letters, and beside parallel sides.
+// On the L as one polygon: straight corners are between letters, and between parallel sides.
 static L_ONE_EXCHANGES: [Told; 5] = [
     Told {
         v: ((1, 0), (0, 0)),
