@@ -1,5 +1,5 @@
 // The exchanges of surfaces in some directions, worked out from the definition by another program: the measures of
-// corners are cross products, and sides stand in their rows by the measures of their left ends.
+// corners are cross products, and sides are in their rows by the measures of their left ends.
 
 use crate::common::{Told, expect_exchanges};
 use crate::plans::{OCTAGON, PENTAGONS, SQUARE, STAIRCASE};

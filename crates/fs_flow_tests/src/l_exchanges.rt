@@ -1,5 +1,5 @@
 // The exchanges of the L of three squares, worked out from the definition by another program: the measures of
-// corners are cross products, and sides stand in their rows by the measures of their left ends.
+// corners are cross products, and sides are in their rows by the measures of their left ends.
 
 use crate::common::{Told, expect_exchanges};
 use crate::plans::{L_ONE, L_THREE, L_TWO};

@@ -1,5 +1,5 @@
 // The first site at which an exchange overflows: those of all letters come before those of all return vectors, and each is
-// by polygon, side and place. Totals that just fit stand beside them.
+// by polygon, side and place. Totals that just fit come beside them.
 
 use crate::common::{BELOW_HALF, Found, HALF, MOST, Sites, expect_sites};
 use crate::plans::{L_THREE, SQUARE, STAIRCASE};

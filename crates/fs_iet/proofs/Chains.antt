@@ -1,4 +1,4 @@
--- Runs of numbered items as chains, and lists of chains. A library for crates to come.
+-- Runs of numbered items as chains, and lists of chains.
 use Rattle.std.proofs.Common.{◌≡◌, ◌⊎◌, ℕ, zero, suc, ◌+◌, ◌<◌, ◌≤◌, List, [], ◌∷◌, length, get_or, refl, sym, ap, ◌∙◌, subst, inl, inr, arith, add-zero, add-suc}
 use Rattle.std.specs.List.{flat_map}
 use Rattle.fs_lists.specs.Members.{IsIn}

@@ -1,4 +1,4 @@
--- What the tests and least numbers that measures are computed with say. A library for crates to come.
+-- What the tests and least numbers that measures are computed with say.
 use Rattle.std.proofs.Common.{◌≡◌, ◌⊎◌, ℕ, false, if◌then◌else◌, List, [], ◌∷◌, refl, sym, ap, ◌∙◌, subst, inl, inr}
 use Rattle.std.specs.Ordering.{is_gt, is_lt}
 use Rattle.std.specs.declared.cmp.Ordering.{Ordering}

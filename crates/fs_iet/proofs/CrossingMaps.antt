@@ -1,4 +1,4 @@
--- Where a flow leads from a crossing to the next is a map of positions, one to one and onto. A library for crates to come.
+-- Where a flow leads from a crossing to the next is a map of positions, one to one and onto.
 use Rattle.std.proofs.Common.{◌≡◌, ◌≢◌, List, length, refl, sym, ap, ◌∙◌, subst}
 use Rattle.fs_lists.specs.Members.{IsIn}
 use Rattle.fs_ring.specs.OrderedRing.{IsAtMost}

@@ -1,4 +1,4 @@
--- The names of the exchange of a flow: those of the top row are their numbers, and the bottom row has the same. A library for crates to come.
+-- The names of the exchange of a flow: those of the top row are their numbers, and the bottom row has the same.
 use Rattle.std.proofs.Common.{◌≡◌, ◌≢◌, ℕ, Option, Some, List, length, IsPermutation, sym, ap, ◌∙◌, subst, arith}
 use Rattle.std.proofs.lemmas.Option.{slice_get_within, same_Some}
 use Rattle.std.specs.List.{slice_get, range_with_len}

@@ -1,4 +1,4 @@
--- The exchange of a flow is lawful, and the left ends of its letters are the measures of their sides. A library for crates to come.
+-- The exchange of a flow is lawful, and the left ends of its letters are the measures of their sides.
 use Rattle.std.proofs.Common.{◌≡◌, ◌≢◌, ℕ, ◌<◌, ◌≤◌, Some, List, [], ◌∷◌, map, length, refl, sym, ap, ◌∙◌, subst, inl, inr, arith}
 use Rattle.std.proofs.lemmas.Option.{same_Some}
 use Rattle.std.specs.List.{slice_get, AllByRecursion}

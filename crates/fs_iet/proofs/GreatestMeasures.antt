@@ -1,4 +1,4 @@
--- Numbers that rise and fall along four runs: seen from below they fall and rise along four runs, so the greatest is where the second run ends. A library for crates to come.
+-- Numbers that rise and fall along four runs: seen from below they fall and rise along four runs, so the greatest is where the second run ends.
 use Rattle.std.proofs.Common.{◌≡◌, ℕ, ◌+◌, ◌-◌, ◌≤◌, [], ◌∷◌, refl, sym, ap, ◌∙◌, subst, arith}
 use Rattle.fs_ring.specs.Operations.{Operations}
 use Rattle.fs_ring.specs.OrderedRing.{IsOrderedRing, IsAtMost}

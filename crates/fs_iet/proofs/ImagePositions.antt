@@ -1,4 +1,4 @@
--- The image of a position that is computed by a component's lengths is where the component takes the position. A library for crates to come.
+-- The image of a position that is computed by a component's lengths is where the component takes the position.
 use Rattle.std.proofs.Common.{◌≡◌, ◌≢◌, ℕ, ◌+◌, if◌then◌else◌, Bool, true, false, Result, Ok, Err, IfOk, List, [], ◌∷◌, refl, sym, ap, ◌∙◌, subst, inl, inr}
 use Rattle.std.proofs.lemmas.Bool.Decides.{eqb_tells}
 use Rattle.fs_lists.specs.Members.{IsIn}

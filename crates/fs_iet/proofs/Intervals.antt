@@ -1,4 +1,4 @@
--- Intervals that are laid one after another: rows whose intervals agree, are mapped, or are as long in turn. A library for crates to come.
+-- Intervals that are laid one after another: rows whose intervals agree, are mapped, or are as long in turn.
 use Rattle.std.proofs.Common.{◌≡◌, ◌⊎◌, ℕ, zero, suc, Some, List, [], ◌∷◌, map, refl, sym, ap, ◌∙◌, subst, inl, inr}
 use Rattle.std.specs.List.{slice_get}
 use Rattle.std.proofs.lemmas.Option.{same_Some}

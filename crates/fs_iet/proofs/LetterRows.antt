@@ -1,4 +1,4 @@
--- The rows of a lawful component: the intervals of its letters, which are laid one after another in both rows. A library for crates to come.
+-- The rows of a lawful component: the intervals of its letters, which are laid one after another in both rows.
 use Rattle.std.proofs.Common.{◌≡◌, ◌≢◌, ℕ, ◌==◌, if◌then◌else◌, List, [], ◌∷◌, map, refl, sym, ap, ◌∙◌, subst, inl, inr}
 use Rattle.std.proofs.lemmas.Bool.Decides.{eqb_tells}
 use Rattle.std.proofs.lemmas.List.Sorted.{IsPermutation-sym}

@@ -1,4 +1,4 @@
--- Lists compared item by item, by numbers. A library for crates to come.
+-- Lists compared item by item, by numbers.
 use Rattle.std.proofs.Common.{◌≡◌, ℕ, zero, suc, ◌+◌, Some, List, [], ◌∷◌, map, length, refl, sym, ap, ◌∙◌, inl, inr, arith, add-zero}
 use Rattle.std.proofs.lemmas.Option.{slice_get_within, slice_get-map, same_Some}
 use Rattle.std.proofs.lemmas.List.{length-map}

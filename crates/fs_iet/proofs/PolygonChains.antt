@@ -1,4 +1,4 @@
--- The outgoing sides of a polygon and its incoming ones, from left to right: each kind is a chain, and its intervals fill the polygon's block. A library for crates to come.
+-- The outgoing sides of a polygon and its incoming ones, from left to right: each kind is a chain, and its intervals fill the polygon's block.
 use Rattle.std.proofs.Common.{◌≡◌, ◌↔◌, ◌⊎◌, ℕ, suc, ◌+◌, ◌-◌, ◌<◌, ◌≤◌, List, length, sym, ap, ◌∙◌, subst, inl, inr, arith}
 use Rattle.fs_lists.specs.Members.{IsIn}
 use Rattle.fs_ring.specs.OrderedRing.{IsAtMost}

@@ -1,4 +1,4 @@
--- The measures of the corners of one polygon: they go from the beginning of its block of positions to the beginning of the next. A library for crates to come.
+-- The measures of the corners of one polygon: they go from the beginning of its block of positions to the beginning of the next.
 use Rattle.std.proofs.Common.{◌≡◌, ◌≢◌, ℕ, suc, ◌+◌, ◌-◌, ◌<◌, ◌≤◌, Option, Some, None, List, [], ◌∷◌, ◌++◌, map, length, take, refl, sym, ap, ◌∙◌, subst, arith}
 use Rattle.std.proofs.lemmas.List.FromFn.{map-range_with_len_more}
 use Rattle.std.specs.List.{slice_get, range_with_len}

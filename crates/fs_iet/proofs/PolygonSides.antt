@@ -1,4 +1,4 @@
--- The sides of a polygon by their numbers from corner 0 on, again and again round it. A library for crates to come.
+-- The sides of a polygon by their numbers from corner 0 on, again and again round it.
 use Rattle.std.proofs.Common.{◌≡◌, ℕ, zero, suc, ◌+◌, ◌<◌, ◌%◌, ◌==◌, if◌then◌else◌, Option, Some, None, List, [], ◌∷◌, map, length, get_or, take, refl, sym, ap, ◌∙◌, subst, inl, inr, arith, add-zero, mod-lt, zero-lt-suc}
 use Rattle.std.proofs.lemmas.Bool.Decides.{nat_tests}
 use Rattle.std.proofs.lemmas.Option.{slice_get-get_or, slice_get_within, slice_get-map}

@@ -1,4 +1,4 @@
--- A side that the flow crosses is real exactly where its left end isn't the beginning of its polygon's block of positions. A library for crates to come.
+-- A side that the flow crosses is real exactly where its left end isn't the beginning of its polygon's block of positions.
 use Rattle.std.proofs.Common.{◌≡◌, ◌≢◌, ◌↔◌, ◌⊎◌, ℕ, suc, ◌+◌, ◌-◌, ◌<◌, ◌≤◌, length, refl, sym, ap, ◌∙◌, subst, inl, inr, arith}
 use Rattle.fs_ring.specs.OrderedRing.{IsAtMost}
 use Rattle.fs_ring.proofs.Order as order

@@ -1,4 +1,4 @@
--- A position in an interval, and the position as far right of the beginning of another interval of the same length. A library for crates to come.
+-- A position in an interval, and the position as far right of the beginning of another interval of the same length.
 use Rattle.std.proofs.Common.{◌≡◌, [], ◌∷◌, refl, sym, ap, ◌∙◌}
 use Rattle.fs_ring.specs.Operations.{Operations, sub}
 use Rattle.fs_ring.specs.OrderedRing.{IsOrderedRing, IsNonNegative, IsLess, IsAtMost}

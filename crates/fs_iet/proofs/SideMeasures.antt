@@ -1,4 +1,4 @@
--- The sides of a surface across a flow: widths of partners, and the measures of both ends of a side. A library for crates to come.
+-- The sides of a surface across a flow: widths of partners, and the measures of both ends of a side.
 use Rattle.std.proofs.Common.{◌≡◌, [], ◌∷◌, refl, sym, ap, ◌∙◌, subst}
 use Rattle.std.proofs.lemmas.Option.{unwrap_or-slice_get}
 use Rattle.fs_lists.proofs.All.{All-slice_get}

@@ -1,4 +1,4 @@
--- The rows of a surface and a flow: there are such rows, and the intervals of the sides of each fill the positions. A library for crates to come.
+-- The rows of a surface and a flow: there are such rows, and the intervals of the sides of each fill the positions.
 use Rattle.std.proofs.Common.{◌≡◌, ◌≢◌, ℕ, suc, ◌+◌, ◌<◌, List, [], length, get_or, refl, sym, subst, arith}
 use Rattle.std.specs.List.{flat_map}
 use Rattle.fs_quadratic.specs.Ring.{Quadratic, quadratic, zero as nil}

@@ -27,7 +27,7 @@ use std::alloc::{AllocError, Global};
 use std::marker::Model;
 
 /// The interval exchange of a flow over a surface: where a line along the direction leaves a polygon, and where it enters the
-/// next. All lengths and vectors are scaled. It has 1 to 512 letters, which are numbered from 0 as they stand in the top row,
+/// next. All lengths and vectors are scaled. It has 1 to 512 letters, which are numbered from 0 in the order of the top row,
 /// from left to right; both rows have the same letters, each once. The lengths are positive, and sum to the total.
 #[derive(Drop)]
 pub struct Exchange {
