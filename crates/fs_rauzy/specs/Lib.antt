@@ -1,0 +1,11 @@
+pub mod Comparisons
+pub mod Events
+pub mod FirstReturns
+pub mod Loops
+pub mod Rooms
+pub mod Rule
+pub mod Runs
+pub mod SplitsInPlace
+pub mod States
+pub mod StatesInPlace
+pub mod Steps

@@ -1,0 +1,72 @@
+// The comparison of two states of a component up to scale.
+
+ghost use Rattle.std.specs.Prelude.{◌≡◌, ◌≢◌, ◌↔◌, ◌<◌, ◌≤◌, ◌+◌, IsTrue, IfOk, length};
+ghost use Rattle.std.specs.List.{AllByRecursion};
+ghost use Rattle.fs_iet.specs.ExchangeValue.{most_letters};
+ghost use Rattle.fs_rauzy.specs.Comparisons.{IsComparison, checked_proportion};
+ghost use Rattle.fs_rauzy.specs.Loops.{AreAlike};
+ghost use Rattle.fs_rauzy.specs.StatesInPlace.{letters_at};
+ghost use Rattle.fs_rauzy.specs.Steps.{IsOpen, AtBoth};
+
+use crate::letters::Interval;
+use crate::states::State;
+use fs_plane::Place;
+use fs_quadratic::steps::product_at;
+use fs_quadratic::{Elem, Field};
+
+impl State {
+    /// Whether the current component is alike to that of another state, saved earlier: their rows are equal, and the lengths
+    /// are in the proportion of the totals. Neither state may be done.
+    ///
+    /// Where the rows are equal, the letters are compared in the order of the top row, up to the first that isn't in
+    /// proportion: for letter n place 7 + 2n is the product of its length and the saved total, place 8 + 2n that of its saved
+    /// length and the total. The error is the first place that overflows. The cost is linear in the letters. Takes no memory.
+    pub fn same_shape(&self, other: &State) -> Result<bool, Place>
+        requires open { IsOpen self.now.open }
+        requires saved { IsOpen other.now.open }
+        ensures comparison { AtBoth (λ before after. IsComparison self.now.d before after result) other.now.open self.now.open }
+        ensures alike { IfOk result (λ same. AtBoth (λ before after. IsTrue same ↔ AreAlike self.now.d before after) other.now.open self.now.open) }
+    {
+        let now = self.extents.last();
+        let before = other.extents.last();
+        let top = &self.top[now.first..];
+        if top != &other.top[before.first..]
+            || &self.bottom[now.first..] != &other.bottom[before.first..]
+        {
+            return Ok(false);
+        }
+        is_proportional(
+            self.field,
+            top,
+            &other.letters,
+            before.total,
+            &self.letters,
+            now.total,
+        )
+    }
+}
+
+// Whether the lengths of the letters of these names are in the proportion of the totals.
+fn is_proportional(
+    field: Field,
+    names: &[u32],
+    before: &[Interval],
+    total_before: Elem,
+    after: &[Interval],
+    total: Elem,
+) -> Result<bool, Place>
+    requires before { AllByRecursion (λ name. name < length before.now) names.now }
+    requires after { AllByRecursion (λ name. name < length after.now) names.now }
+    requires few { length names.now ≤ most_letters }
+    ensures { result ≡ checked_proportion field.d total_before total 0 (letters_at before.now names.now) (letters_at after.now names.now) }
+{
+    for (n, &name) in names.iter().enumerate() {
+        let place = 7 + 2 * n as u32;
+        let left = product_at(place, field, after[name as usize].length, total_before)?;
+        let right = product_at(place + 1, field, before[name as usize].length, total)?;
+        if left != right {
+            return Ok(false);
+        }
+    }
+    Ok(true)
+}

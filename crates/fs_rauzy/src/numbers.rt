@@ -1,0 +1,179 @@
+// The numbers of events, each with its place.
+
+ghost use Rattle.std.specs.Prelude.{◌≡◌, ◌+◌, ◌<◌, ◌≤◌, ◌^◌, length};
+ghost use Rattle.std.specs.List.{AllByRecursion};
+ghost use Rattle.fs_iet.specs.ExchangeValue.{most_letters};
+ghost use Rattle.fs_rauzy.specs.Rule as rule;
+ghost use Rattle.fs_rauzy.specs.Rule.{checked_connection, checked_won, checked_merged, checked_prefix, checked_lengths, checked_split};
+ghost use Rattle.fs_rauzy.specs.StatesInPlace.{letters_at};
+
+use crate::events::Found;
+use crate::letters::Interval;
+use fs_plane::steps::vector_sum_after;
+use fs_plane::{Place, V2};
+use fs_quadratic::Elem;
+use fs_quadratic::steps::{difference_at, sum_at};
+use std::marker::Model;
+
+// The numbers of a won comparison.
+#[derive(Clone, Copy)]
+pub struct WonNumbers {
+    pub length: Elem,
+    pub total: Elem,
+    pub back: V2,
+    pub vector: V2,
+}
+
+impl Model for WonNumbers {
+    ghost use Rattle.fs_rauzy.specs.Rule as rule;
+
+    ghost Value = { rule.WonNumbers };
+
+    ghost view = { λ n. record { length = n.length; total = n.total; back = n.back; vector = n.vector } };
+
+    ghost inverse = { λ n. record { length = n.length; total = n.total; back = n.back; vector = n.vector } };
+}
+
+// The numbers of a merge.
+#[derive(Clone, Copy)]
+pub struct MergedNumbers {
+    pub total: Elem,
+    pub back: V2,
+    pub found: Option<Found>,
+}
+
+impl Model for MergedNumbers {
+    ghost use Rattle.fs_rauzy.specs.Rule as rule;
+
+    ghost Value = { rule.MergedNumbers };
+
+    ghost view = { λ n. record { total = n.total; back = n.back; found = n.found } };
+
+    ghost inverse = { λ n. record { total = n.total; back = n.back; found = n.found } };
+}
+
+// The numbers of a split.
+#[derive(Clone, Copy)]
+pub struct SplitNumbers {
+    pub sum: Elem,
+    pub rest: Elem,
+    pub base: Elem,
+    pub found: Option<Found>,
+}
+
+impl Model for SplitNumbers {
+    ghost use Rattle.fs_rauzy.specs.Rule as rule;
+
+    ghost Value = { rule.SplitNumbers };
+
+    ghost view = { λ n. record { sum = n.sum; rest = n.rest; base = n.base; found = n.found } };
+
+    ghost inverse = { λ n. record { sum = n.sum; rest = n.rest; base = n.base; found = n.found } };
+}
+
+// The numbers of a won comparison, where the loser's end with this vector moves.
+#[tactic(auto, unfolding(crate::specs::Rule::checked_won))]
+pub fn find_won(
+    winner: &Interval,
+    loser: &Interval,
+    total: Elem,
+    vector: V2,
+) -> Result<WonNumbers, Place>
+    ensures { result ≡ checked_won winner.now loser.now total vector }
+{
+    let length = difference_at(1, winner.length, loser.length)?;
+    let rest = difference_at(2, total, loser.length)?;
+    let back = vector_sum_after(2, loser.back, winner.back)?;
+    let moved = vector_sum_after(4, vector, winner.back)?;
+    Ok(WonNumbers {
+        length,
+        total: rest,
+        back,
+        vector: moved,
+    })
+}
+
+// The numbers of a merge of x, last in the top row, and y, last in the bottom row.
+#[tactic(auto, unfolding(crate::specs::Rule::checked_merged))]
+pub fn find_merged(x: &Interval, y: &Interval, total: Elem) -> Result<MergedNumbers, Place>
+    ensures { result ≡ checked_merged x.now y.now total }
+{
+    let rest = difference_at(1, total, x.length)?;
+    let back = vector_sum_after(1, y.back, x.back)?;
+    let found = find_connection(3, y, x)?;
+    Ok(MergedNumbers {
+        total: rest,
+        back,
+        found,
+    })
+}
+
+// The numbers of a split of a component with this base and this total after k letters, whose lengths sum to `sum`.
+pub fn find_split_numbers(
+    base: Elem,
+    total: Elem,
+    k: u32,
+    sum: Elem,
+    starting: &Interval,
+    ending: &Interval,
+) -> Result<SplitNumbers, Place>
+    requires { k ≤ most_letters }
+    ensures { result ≡ rule.checked_parts base total k sum starting.now ending.now }
+{
+    let rest = difference_at(k, total, sum)?;
+    let right = sum_at(k + 1, base, sum)?;
+    let found = find_connection(k + 1, starting, ending)?;
+    Ok(SplitNumbers {
+        sum,
+        rest,
+        base: right,
+        found,
+    })
+}
+
+// The connection from the start of a letter to the end of another, if both are real.
+fn find_connection(
+    before: u32,
+    starting: &Interval,
+    ending: &Interval,
+) -> Result<Option<Found>, Place>
+    requires { before + 2 < 2 ^ 32 }
+    ensures { result ≡ checked_connection before starting.now ending.now }
+{
+    if !(starting.start.real && ending.end.real) {
+        return Ok(None);
+    }
+    let v = vector_sum_after(before, starting.start.v, ending.end.v)?;
+    Ok(Some(Found {
+        start: starting.corner,
+        v,
+    }))
+}
+
+// The sum of the lengths of the letters of these names.
+pub fn find_prefix(letters: &[Interval], names: &[u32]) -> Result<Elem, Place>
+    requires within { AllByRecursion (λ name. name < length letters.now) names.now }
+    requires few { length names.now ≤ most_letters }
+    ensures { result ≡ checked_prefix (letters_at letters.now names.now) }
+{
+    match names.split_first() {
+        Some((first, others)) => {
+            let sum = letters[*first as usize].length;
+            add_lengths(letters, others, sum)
+        }
+        None => Ok(Elem::ZERO),
+    }
+}
+
+// That sum, from the first length on: the places are 1 and so on.
+fn add_lengths(letters: &[Interval], names: &[u32], first: Elem) -> Result<Elem, Place>
+    requires within { AllByRecursion (λ name. name < length letters.now) names.now }
+    requires few { length names.now ≤ most_letters }
+    ensures { result ≡ checked_lengths 1 first (letters_at letters.now names.now) }
+{
+    let mut sum = first;
+    for (n, &name) in names.iter().enumerate() {
+        sum = sum_at(1 + n as u32, sum, letters[name as usize].length)?;
+    }
+    Ok(sum)
+}
