@@ -1,0 +1,4 @@
+pub mod Connections
+pub mod FlowMeaning
+pub mod Flows
+pub mod Measures
