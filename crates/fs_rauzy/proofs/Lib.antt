@@ -1,0 +1,5 @@
+pub mod LastLetters
+pub mod LetterChanges
+pub mod OutcomeUnique
+pub mod RowEnds
+pub mod SplitPlaces
