@@ -2,12 +2,18 @@
 use Rattle.std.proofs.Common.{◌≡◌, ℕ, List, [], ◌∷◌, ◌++◌, length, sym, ap, ◌∙◌, subst, inl, inr, arith, length-append}
 use Rattle.std.proofs.lemmas.List.{same_from_push}
 use Rattle.std.proofs.lemmas.Option.{same_Some}
-use Rattle.fs_lists.specs.Members.{IsIn}
+use Rattle.fs_lists.specs.Members.{IsIn, IsDistinct}
+use Rattle.fs_lists.proofs.Members.{in_map}
 use Rattle.fs_ring.specs.OrderedRing.{IsOrderedRing}
 use Rattle.fs_quadratic.specs.Ring.{quadratic, IsPositive}
-use Rattle.fs_gluing.specs.Exchanges.{Letter, Component, IsLawful}
+use Rattle.fs_gluing.specs.Exchanges.{Letter, Component, IsLawful, names_of}
 use Rattle.fs_iet.proofs.TakenPositions.{letter_of_name}
 use Rattle.fs_rauzy.specs.Events.{AreLast, AreAt}
+
+-- letters with different names are different
+pub letters_distinct : (letters : List Letter) → IsDistinct (names_of letters) → IsDistinct letters
+letters_distinct [] p = tt
+letters_distinct (x ∷ xs) p = ((λ y h e. p.0 y.name (in_map (λ (l : Letter). l.name) y xs h) (ap (λ (l : Letter). l.name) e)), letters_distinct xs p.1)
 
 only_item : {X : Type 0} (front : List X) (x y : X) → IsIn y (front ++ x ∷ []) → length (front ++ x ∷ []) ≡ 1 → y ≡ x
 only_item [] x y (inl e) l = e

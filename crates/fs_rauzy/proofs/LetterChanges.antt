@@ -1,5 +1,6 @@
 -- Rows in which one letter changes, and rows whose letters get other tags: names, lengths and their sums. A library for crates to come.
-use Rattle.std.proofs.Common.{◌≡◌, ◌≢◌, ◌⊎◌, ℕ, ◌==◌, if◌then◌else◌, true, false, List, [], ◌∷◌, map, refl, sym, ap, ◌∙◌, subst, inl, inr}
+use Rattle.std.proofs.Common.{◌≡◌, ◌≢◌, ◌⊎◌, ℕ, ◌==◌, if◌then◌else◌, true, false, List, [], ◌∷◌, length, map, refl, sym, ap, ◌∙◌, subst, inl, inr}
+use Rattle.std.proofs.lemmas.List.{length-map}
 use Rattle.std.proofs.lemmas.Bool.Decides.{eqb_tells}
 use Rattle.std.specs.List.{AllByRecursion}
 use Rattle.fs_lists.specs.Members.{IsIn, IsDistinct}
@@ -35,6 +36,9 @@ put-name new letter = elim (put_cases new letter) [ inl h ↦ ap (λ (l : Letter
 pub with_letter-names : (new : Letter) (letters : List Letter) → names_of (with_letter new letters) ≡ names_of letters
 with_letter-names new [] = refl
 with_letter-names new (l ∷ ls) = λ i. put-name new l i ∷ with_letter-names new ls i
+
+pub with_letter-length : (new : Letter) (letters : List Letter) → length (with_letter new letters) ≡ length letters
+with_letter-length new letters = length-map letters (put new)
 
 -- letters of other names stay
 pub with_letter_other : (new letter : Letter) (letters : List Letter) → IsIn letter letters → letter.name ≢ new.name → IsIn letter (with_letter new letters)

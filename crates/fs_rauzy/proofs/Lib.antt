@@ -1,3 +1,4 @@
+pub mod EventRows
 pub mod LastLetters
 pub mod LetterChanges
 pub mod OutcomeUnique

@@ -1,15 +1,13 @@
 -- One outcome: the rule chooses one event of the current component, and its tests give one result. A library for crates to come.
-use Rattle.std.proofs.Common.{◌≡◌, ℕ, ◌≤◌, if◌then◌else◌, Bool, true, false, Option, is_some, Result, Err, List, [], ◌∷◌, length, map, drop, refl, sym, ap, ◌∙◌, subst, arith}
+use Rattle.std.proofs.Common.{◌≡◌, ℕ, ◌≤◌, if◌then◌else◌, Bool, true, false, Option, is_some, Result, Err, List, ◌∷◌, length, map, drop, refl, sym, ap, ◌∙◌, subst, arith}
 use Rattle.std.specs.List.{AllByRecursion}
-use Rattle.fs_lists.specs.Members.{IsDistinct}
-use Rattle.fs_lists.proofs.Members.{in_map}
 use Rattle.fs_lists.proofs.Results.{err_equal, ok_not_err}
 use Rattle.fs_ring.specs.OrderedRing.{IsOrderedRing}
 use Rattle.fs_ring.proofs.Order as order
 use Rattle.fs_quadratic.specs.declared.steps.Place.{Place}
 use Rattle.fs_quadratic.specs.Ring as ring
 use Rattle.fs_quadratic.specs.Ring.{Quadratic, quadratic, IsPositive, IsLess, add, sub}
-use Rattle.fs_gluing.specs.Exchanges.{Letter, Component, IsLawful, names_of}
+use Rattle.fs_gluing.specs.Exchanges.{Letter, Component, IsLawful}
 use Rattle.fs_iet.proofs.LetterRows.{bottom_distinct}
 use Rattle.fs_rauzy.specs.declared.events.Event.{Event}
 use Rattle.fs_rauzy.specs.declared.events.Event.TheVariants.{Won, Merged, Split}
@@ -17,16 +15,11 @@ use Rattle.fs_rauzy.specs.declared.events.Found.{Found}
 use Rattle.fs_rauzy.specs.Events.{with_letter, won_over, lost_below, lost_above, merged_of, connection, without_start, without_end, prefix_sum, HasSplit, IsMovedBehind, IsPutInPlace, IsWonByTop, IsWonByBottom, IsMerged, IsSplit, Outcome, Makes, splits, closes, wins_above, wins_below, merges}
 use Rattle.fs_rauzy.specs.Rule.{FollowsRule, IsNext, IsMade, StopsAt, Tests, of_split, of_closed, of_won_above, of_won_below, of_merged, passed, checked_won, checked_merged, checked_split}
 use Rattle.fs_rauzy.proofs.RowEnds.{moved_unique, put_unique}
-use Rattle.fs_rauzy.proofs.LastLetters.{one_letter_last, last_front, last_on_top, last_below, starting_unique, ending_unique}
+use Rattle.fs_rauzy.proofs.LastLetters.{letters_distinct, one_letter_last, last_front, last_on_top, last_below, starting_unique, ending_unique}
 
 -- components with equal parts
 component_eq : {a b : Component} → a.base ≡ b.base → a.total ≡ b.total → a.top ≡ b.top → a.bottom ≡ b.bottom → a ≡ b
 component_eq e f g h = λ i. record { base = e i; total = f i; top = g i; bottom = h i }
-
--- letters with different names are different
-pub letters_distinct : (letters : List Letter) → IsDistinct (names_of letters) → IsDistinct letters
-letters_distinct [] p = tt
-letters_distinct (x ∷ xs) p = ((λ y h e. p.0 y.name (in_map (λ (l : Letter). l.name) y xs h) (ap (λ (l : Letter). l.name) e)), letters_distinct xs p.1)
 
 abbrev outcome : Event → Quadratic → List Component → Outcome
 outcome event length components = record { event = event; length = length; components = components }

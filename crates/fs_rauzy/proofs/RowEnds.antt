@@ -1,9 +1,11 @@
 -- The last item of a row, what stands around an item that is there once, and the rows after an item has moved. A library for crates to come.
 use Rattle.std.proofs.Common.{◌≡◌, ℕ, zero, suc, ◌<◌, List, [], ◌∷◌, ◌++◌, length, take, IsPermutation, refl, sym, ap, ◌∙◌, subst, inl, inr, arith}
-use Rattle.std.proofs.lemmas.List.{same_from_push}
-use Rattle.std.proofs.lemmas.List.Sorted.{IsPermutation-append_right, IsPermutation-append_comm, IsPermutation-cons}
+use Rattle.std.proofs.lemmas.List.{map-append, same_from_push}
+use Rattle.std.proofs.lemmas.List.Sorted.{IsPermutation-trans, IsPermutation-middle, IsPermutation-append_right, IsPermutation-append_comm, IsPermutation-cons}
+use Rattle.std.specs.List.{AllByRecursion}
 use Rattle.fs_lists.specs.Members.{IsIn, IsDistinct}
 use Rattle.fs_lists.proofs.Members.{in_append_left, in_append_right}
+use Rattle.fs_gluing.specs.Exchanges.{Letter, names_of}
 use Rattle.fs_rauzy.specs.Events.{IsMovedBehind, IsPutInPlace}
 
 -- an item and those before it
@@ -92,9 +94,33 @@ module _ {X : Type 0} where
       (IsPermutation-append_right m.left (w ∷ (m.right ++ l ∷ [])) (w ∷ (l ∷ m.right))
       (IsPermutation-cons w (m.right ++ l ∷ []) (l ∷ m.right) (IsPermutation-append_comm m.right (l ∷ [])))))
 
+  -- the row before is a permutation of the one after, and the item whose place was taken
+  pub put_permutation : {x y : X} {before after : List X} → IsPutInPlace x y before after → IsPermutation before (x ∷ after)
+  put_permutation {x} {y} {before} {after} m =
+      subst (λ zs. IsPermutation zs (x ∷ after)) (sym m.was)
+      (subst (λ zs. IsPermutation (m.left ++ x ∷ (m.right ++ y ∷ [])) (x ∷ zs)) (sym m.becomes)
+      (IsPermutation-trans (m.left ++ x ∷ (m.right ++ y ∷ [])) (x ∷ (m.left ++ (m.right ++ y ∷ []))) (x ∷ (m.left ++ y ∷ m.right))
+      (IsPermutation-middle m.left x (m.right ++ y ∷ []))
+      (IsPermutation-cons x (m.left ++ (m.right ++ y ∷ [])) (m.left ++ y ∷ m.right)
+      (IsPermutation-append_right m.left (m.right ++ y ∷ []) (y ∷ m.right) (IsPermutation-append_comm m.right (y ∷ []))))))
+
   -- the first k items before which the winner doesn't stand are those of the row before
   pub moved_take : {w l : X} {before after : List X} (k : ℕ) → IsMovedBehind w l before after → ¬ IsIn w (take k after) → take k after ≡ take k before
   moved_take {w} {l} {before} {after} k m n =
       ap (take k) m.becomes
       ∙ take_front m.left w (l ∷ m.right) k (λ h. n (subst (λ zs. IsIn w (take k zs)) (sym m.becomes) h)) (m.right ++ l ∷ [])
       ∙ ap (take k) (sym m.was)
+
+-- names move as letters do
+pub moved_names : {w l : Letter} {before after : List Letter} → IsMovedBehind w l before after → IsMovedBehind w.name l.name (names_of before) (names_of after)
+moved_names {w} {l} m = record {
+  left = names_of m.left;
+  right = names_of m.right;
+  was = ap names_of m.was ∙ map-append (λ (l : Letter). l.name) m.left (w ∷ (m.right ++ l ∷ [])) ∙ ap (λ ns. names_of m.left ++ w.name ∷ ns) (map-append (λ (l : Letter). l.name) m.right (l ∷ []));
+  becomes = ap names_of m.becomes ∙ map-append (λ (l : Letter). l.name) m.left (w ∷ (l ∷ m.right));
+}
+
+-- what holds of each member holds of each item
+pub All_of_members : {X : Type 0} (P : X → Type 0) (xs : List X) → ((x : X) → IsIn x xs → P x) → AllByRecursion P xs
+All_of_members P [] h = tt
+All_of_members P (x ∷ xs) h = (h x (inl refl), All_of_members P xs (λ y k. h y (inr k)))

@@ -13,7 +13,7 @@ use Rattle.fs_rauzy.specs.Events.{HasSplit, AreLast, IsMovedBehind, IsWonByTop, 
 use Rattle.fs_rauzy.specs.Rule.{HasNoSplit}
 use Rattle.fs_rauzy.specs.SplitsInPlace.{HaveSamePrefix}
 use Rattle.fs_rauzy.specs.Steps.{CanCompare}
-use Rattle.fs_rauzy.proofs.RowEnds.{ends_with, distinct_across, last_not_in_take, moved_take, moved_permutation}
+use Rattle.fs_rauzy.proofs.RowEnds.{ends_with, distinct_across, last_not_in_take, moved_take, moved_permutation, moved_names}
 use Rattle.fs_rauzy.proofs.LetterChanges.{with_letter-names}
 
 -- ---- rows of names
@@ -51,15 +51,6 @@ moved_split {w} {l} {top} {before} {after} {k} front e p m h =
     (subst (λ (zs : List ℕ). IsIn w (take k zs)) e there) in
     let same = moved_take k m (λ there. not_top ((h.equal w).1 there)) in
     record { some = h.some; others = h.others; equal = λ name. subst (λ (zs : List ℕ). IsIn name (take k top) ↔ IsIn name zs) same (h.equal name) }
-
--- names move as letters do
-moved_names : {w l : Letter} {before after : List Letter} → IsMovedBehind w l before after → IsMovedBehind w.name l.name (names_of before) (names_of after)
-moved_names {w} {l} m = record {
-  left = names_of m.left;
-  right = names_of m.right;
-  was = ap names_of m.was ∙ map-append (λ (l : Letter). l.name) m.left (w ∷ (m.right ++ l ∷ [])) ∙ ap (λ ns. names_of m.left ++ w.name ∷ ns) (map-append (λ (l : Letter). l.name) m.right (l ∷ []));
-  becomes = ap names_of m.becomes ∙ map-append (λ (l : Letter). l.name) m.left (w ∷ (l ∷ m.right));
-}
 
 front_to_front : (fore back : List ℕ) (x y : ℕ) → x ≡ y → IsDistinct (fore ++ x ∷ []) → ((name : ℕ) → IsIn name (fore ++ x ∷ []) → IsIn name (back ++ y ∷ [])) → (name : ℕ) → IsIn name fore → IsIn name back
 front_to_front fore back x y same p to name h =
