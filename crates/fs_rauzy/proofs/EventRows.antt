@@ -126,7 +126,7 @@ module _ {d : ℕ} (L : IsOrderedRing (quadratic d) (IsPositive d)) {c : Compone
 
   module _ {a : Component} {f : Option Found} (m : IsMerged c a f) where
     -- the names of the top row are those before its last letter, and that letter's
-    merged_names : names_of c.top ≡ names_of m.last.before_top ++ m.x.name ∷ []
+    pub merged_names : names_of c.top ≡ names_of m.last.before_top ++ m.x.name ∷ []
     merged_names = ap names_of m.last.top ∙ map-append (λ (l : Letter). l.name) m.last.before_top (m.x ∷ [])
 
     merged_distinct : IsDistinct (names_of m.last.before_top ++ m.x.name ∷ [])

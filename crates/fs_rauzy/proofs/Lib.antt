@@ -1,5 +1,6 @@
 pub mod EventRows
 pub mod LastLetters
+pub mod LawfulEvents
 pub mod LetterChanges
 pub mod OutcomeUnique
 pub mod RowEnds
