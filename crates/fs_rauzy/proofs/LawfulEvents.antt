@@ -70,7 +70,7 @@ module _ {d : ℕ} (L : IsOrderedRing (quadratic d) (IsPositive d)) {c : Compone
         go true = relabelled-names (ends_relabelled s.starting.name s.ending.name) (drop k c.top)
         go false = refl
 
-    parts_names : names_of c.top ≡ names_of left.top ++ names_of right.top
+    pub parts_names : names_of c.top ≡ names_of left.top ++ names_of right.top
     parts_names = split_names L lawful s.split ∙ (λ i. sym left_names i ++ sym right_names i)
 
     pub split_event_names : KeepsNames (names_of c.top) (names_of right.top ++ names_of left.top)

@@ -1,4 +1,5 @@
 pub mod EventRows
+pub mod EventWeights
 pub mod LastLetters
 pub mod LawfulEvents
 pub mod LetterChanges

@@ -2,6 +2,7 @@ pub mod Comparisons
 pub mod Events
 pub mod FirstReturns
 pub mod Loops
+pub mod Measures
 pub mod Rooms
 pub mod Rule
 pub mod Runs
