@@ -1,4 +1,5 @@
 pub mod Comparisons
+pub mod Cylinders
 pub mod Events
 pub mod FirstReturns
 pub mod Loops
