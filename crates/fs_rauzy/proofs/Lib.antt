@@ -1,0 +1,4 @@
+pub mod LeftEnds
+pub mod NamedLetters
+pub mod RowIntervals
+pub mod TakenAfter
