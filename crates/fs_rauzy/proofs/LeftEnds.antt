@@ -1,7 +1,7 @@
 -- Left ends of letters after a won comparison or a merge: they stay as positions, but for those of the letter that loses or is merged.
 use Rattle.std.proofs.Common.{◌≡◌, ◌≢◌, ◌⊎◌, ℕ, List, [], ◌∷◌, ◌++◌, map, refl, sym, ap, ◌∙◌, subst, inl, inr}
 use Rattle.fs_lists.specs.Members.{IsIn, IsDistinct}
-use Rattle.fs_lists.proofs.Members.{in_append_left, in_append_right, in_append_cases, in_map, in_map_cases}
+use Rattle.fs_lists.proofs.Members.{in_append_left, in_append_right, in_append_cases, in_map}
 use Rattle.fs_ring.specs.OrderedRing.{IsOrderedRing, IsAtMost}
 use Rattle.fs_ring.proofs.Order as order
 use Rattle.fs_ring.proofs.Signs as signs
@@ -10,9 +10,8 @@ use Rattle.fs_quadratic.specs.Ring.{Quadratic, quadratic, IsPositive, IsLess, ad
 use Rattle.fs_plane.specs.Vector.{PlaneVector, vector_add}
 use Rattle.fs_convex.proofs.Rows.{Tiles}
 use Rattle.fs_gluing.specs.Exchanges.{Letter, Component, IsLawful, names_of, length_of, length_before, top_left, bottom_left}
-use Rattle.fs_iet.proofs.LetterRows.{row_tiles, total_of_names, length_of_letter, letter_long, name_long, name_in_top, name_in_bottom, bottom_distinct, bottom_tiles}
-use Rattle.fs_rauzy.specs.Events.{with_letter, won_over, AreLast}
-use Rattle.fs_rauzy.proofs.NamedLetters.{names_with, length_of_others, length_of_new, in_with_cases, same_name_or_not}
+use Rattle.fs_iet.proofs.LetterRows.{row_tiles, total_of_names, length_of_letter, name_long, name_in_top, name_in_bottom, bottom_distinct, bottom_tiles}
+use Rattle.fs_rauzy.specs.Events.{AreLast}
 use Rattle.fs_rauzy.proofs.RowIntervals.{apart_parts, last_ends, ends_before_last}
 
 -- the names of joined lists
@@ -136,44 +135,3 @@ module _ {d : ℕ} (L : IsOrderedRing (quadratic d) (IsPositive d)) where
         (λ name m. name_long L lawful name (name_in_top L lawful name (subst (IsIn name) (sym last.bottom) (in_append_left name last.before_bottom (y.name ∷ []) m))))
         bottom_row old.name
         (elim (in_append_cases old.name last.before_bottom (y.name ∷ []) (in_bottom old h)) [ inl m ↦ m | inr m ↦ elim m [ inl e ↦ absurd (n e) | inr k ↦ absurd k ] ]))
-
-  -- ---- lengths after a won comparison
-
-  module _ (letters : List Letter) (distinct : IsDistinct (names_of letters)) (winner loser lost : Letter) (winner_there : IsIn winner letters) (loser_there : IsIn loser letters)
-      (differ : winner.name ≢ loser.name) (named : lost.name ≡ loser.name) (as_long : lost.length ≡ loser.length) where
-    abbrev pub after_won : List Letter
-    after_won = with_letter lost (with_letter (won_over winner loser) letters)
-
-    pub names_after : names_of after_won ≡ names_of letters
-    names_after = names_with lost (with_letter (won_over winner loser) letters) ∙ names_with (won_over winner loser) letters
-
-    -- the winner is shorter by the loser
-    pub length_of_winner : length_of after_won winner.name ≡ sub winner.length loser.length
-    length_of_winner =
-        length_of_others lost (with_letter (won_over winner loser) letters) winner.name (λ e. differ (e ∙ named))
-        ∙ length_of_new (won_over winner loser) letters (in_map (λ (l : Letter). l.name) winner letters winner_there)
-
-    length_of_loser : length_of after_won loser.name ≡ length_of letters loser.name
-    length_of_loser =
-        ap (length_of after_won) (sym named)
-        ∙ length_of_new lost (with_letter (won_over winner loser) letters)
-        (subst (IsIn lost.name) (sym (names_with (won_over winner loser) letters))
-        (subst (λ name. IsIn name (names_of letters)) (sym named) (in_map (λ (l : Letter). l.name) loser letters loser_there)))
-        ∙ as_long ∙ sym (length_of_letter letters loser distinct loser_there)
-
-    -- all others stay as long
-    pub length_of_rest : (name : ℕ) → name ≢ winner.name → length_of after_won name ≡ length_of letters name
-    length_of_rest name n = elim (same_name_or_not name loser.name) [
-      | inl e ↦ ap (length_of after_won) e ∙ length_of_loser ∙ ap (length_of letters) (sym e)
-      | inr m ↦
-        length_of_others lost (with_letter (won_over winner loser) letters) name (λ e. m (e ∙ named))
-        ∙ length_of_others (won_over winner loser) letters name n
-    ]
-
-    -- the letters are the loser, the winner and the others
-    pub in_after_cases : (letter : Letter) → IsIn letter after_won
-        → (letter ≡ lost) ⊎ ((letter ≡ won_over winner loser) ⊎ (IsIn letter letters × (letter.name ≢ winner.name) × (letter.name ≢ loser.name)))
-    in_after_cases letter h = elim (in_with_cases lost (with_letter (won_over winner loser) letters) letter h) [
-      | inl e ↦ inl e
-      | inr k ↦ elim (in_with_cases (won_over winner loser) letters letter k.0) [ inl e ↦ inr (inl e) | inr m ↦ inr (inr (m.0, m.1, λ e. k.1 (e ∙ sym named))) ]
-    ]

@@ -1,4 +1,5 @@
 pub mod LeftEnds
 pub mod NamedLetters
 pub mod RowIntervals
+pub mod ShortenedComponents
 pub mod TakenAfter

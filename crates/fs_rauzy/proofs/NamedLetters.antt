@@ -1,12 +1,12 @@
 -- A letter that takes the place of the one of its name: names, lengths by names, and members.
-use Rattle.std.proofs.Common.{◌≡◌, ◌≢◌, ◌⊎◌, ℕ, ◌==◌, if◌then◌else◌, Bool, List, [], ◌∷◌, ◌++◌, map, refl, sym, ap, ◌∙◌, subst, inl, inr}
+use Rattle.std.proofs.Common.{◌≡◌, ◌≢◌, ◌⊎◌, ℕ, ◌==◌, if◌then◌else◌, Bool, List, [], ◌∷◌, refl, sym, ap, ◌∙◌, subst, inl, inr}
 use Rattle.std.proofs.lemmas.Bool.Decides.{eqb_tells}
 use Rattle.fs_lists.specs.Members.{IsIn, IsDistinct}
 use Rattle.fs_lists.proofs.Members.{in_map, in_map_cases}
-use Rattle.fs_quadratic.specs.Ring.{Quadratic}
+use Rattle.fs_quadratic.specs.Ring.{Quadratic, sub}
 use Rattle.fs_gluing.specs.Exchanges.{Letter, names_of, length_of}
 use Rattle.fs_iet.proofs.LetterRows.{length_of_letter}
-use Rattle.fs_rauzy.specs.Events.{with_letter}
+use Rattle.fs_rauzy.specs.Events.{with_letter, won_over}
 
 -- ---- the choice by a name
 
@@ -80,3 +80,44 @@ length_of_rearranged letters others p q to name h =
     let from = in_map_cases (λ (l : Letter). l.name) name letters h in
     ap (length_of others) from.2 ∙ length_of_letter others from.0 q (to from.0 from.1)
     ∙ sym (ap (length_of letters) from.2 ∙ length_of_letter letters from.0 p from.1)
+
+-- ---- lengths after a won comparison
+
+module _ (letters : List Letter) (distinct : IsDistinct (names_of letters)) (winner loser lost : Letter) (winner_there : IsIn winner letters) (loser_there : IsIn loser letters)
+    (differ : winner.name ≢ loser.name) (named : lost.name ≡ loser.name) (as_long : lost.length ≡ loser.length) where
+  abbrev pub after_won : List Letter
+  after_won = with_letter lost (with_letter (won_over winner loser) letters)
+
+  pub names_after : names_of after_won ≡ names_of letters
+  names_after = names_with lost (with_letter (won_over winner loser) letters) ∙ names_with (won_over winner loser) letters
+
+  -- the winner is shorter by the loser
+  pub length_of_winner : length_of after_won winner.name ≡ sub winner.length loser.length
+  length_of_winner =
+      length_of_others lost (with_letter (won_over winner loser) letters) winner.name (λ e. differ (e ∙ named))
+      ∙ length_of_new (won_over winner loser) letters (in_map (λ (l : Letter). l.name) winner letters winner_there)
+
+  length_of_loser : length_of after_won loser.name ≡ length_of letters loser.name
+  length_of_loser =
+      ap (length_of after_won) (sym named)
+      ∙ length_of_new lost (with_letter (won_over winner loser) letters)
+      (subst (IsIn lost.name) (sym (names_with (won_over winner loser) letters))
+      (subst (λ name. IsIn name (names_of letters)) (sym named) (in_map (λ (l : Letter). l.name) loser letters loser_there)))
+      ∙ as_long ∙ sym (length_of_letter letters loser distinct loser_there)
+
+  -- all others stay as long
+  pub length_of_rest : (name : ℕ) → name ≢ winner.name → length_of after_won name ≡ length_of letters name
+  length_of_rest name n = elim (same_name_or_not name loser.name) [
+    | inl e ↦ ap (length_of after_won) e ∙ length_of_loser ∙ ap (length_of letters) (sym e)
+    | inr m ↦
+      length_of_others lost (with_letter (won_over winner loser) letters) name (λ e. m (e ∙ named))
+      ∙ length_of_others (won_over winner loser) letters name n
+  ]
+
+  -- the letters are the loser, the winner and the others
+  pub in_after_cases : (letter : Letter) → IsIn letter after_won
+      → (letter ≡ lost) ⊎ ((letter ≡ won_over winner loser) ⊎ (IsIn letter letters × (letter.name ≢ winner.name) × (letter.name ≢ loser.name)))
+  in_after_cases letter h = elim (in_with_cases lost (with_letter (won_over winner loser) letters) letter h) [
+    | inl e ↦ inl e
+    | inr k ↦ elim (in_with_cases (won_over winner loser) letters letter k.0) [ inl e ↦ inr (inl e) | inr m ↦ inr (inr (m.0, m.1, λ e. k.1 (e ∙ sym named))) ]
+  ]
