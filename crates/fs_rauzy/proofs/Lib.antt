@@ -1,3 +1,4 @@
+pub mod DividedComponents
 pub mod LeftEnds
 pub mod NamedLetters
 pub mod RowIntervals

@@ -1,4 +1,4 @@
--- What a component takes after a won comparison or a merge: what one letter takes before, or two letters one after the other.
+-- What a component takes after an event: what one letter takes before, or two letters one after the other; after a won comparison or a merge.
 use Rattle.std.proofs.Common.{◌≡◌, ◌⊎◌, ℕ, [], ◌∷◌, refl, sym, ap, ◌∙◌, subst, inl, inr}
 use Rattle.fs_lists.specs.Members.{IsIn}
 use Rattle.fs_ring.specs.Operations.{Operations, sub as minus}
@@ -70,6 +70,22 @@ module _ (d : ℕ) (c after : Component) where
     pub within : (letter : Letter) (y z : Quadratic) → Takes d after letter y z → IsBetween d after.base (add after.base after.total) z
     pub taken : (letter : Letter) (y z : Quadratic) → Takes d after letter y z → TakenAs letter y z
 
+module _ {d : ℕ} (L : IsOrderedRing (quadratic d) (IsPositive d)) {c after : Component} where
+  -- a letter with the left ends of one before, and at most as long, takes what that takes
+  pub taken_by_old : {letter : Letter} {p z : Quadratic} (old : Letter) → IsIn old c.top → top_left after letter.name ≡ top_left c old.name → bottom_left after letter.name ≡ bottom_left c old.name
+      → IsAtMost (quadratic d) (IsPositive d) letter.length old.length → Takes d after letter p z → Takes d c old p z
+  taken_by_old {letter} {p} {z} old h top bottom shorter t = record {
+    there = h;
+    from_left = subst (λ a. IsAtMost (quadratic d) (IsPositive d) a p) top t.from_left;
+    before_right =
+        order.less_of_less_at_most L p (add (top_left c old.name) letter.length) (add (top_left c old.name) old.length)
+        (subst (λ a. IsLess (quadratic d) (IsPositive d) p (add a letter.length)) top t.before_right)
+        (order.add_at_most_add_left L (top_left c old.name) letter.length old.length shorter);
+    beyond = t.beyond ∙ (λ i. moved (quadratic d) (top i) (bottom i) p);
+  }
+
+-- ---- a won comparison or a merge
+
 module _ {d : ℕ} (L : IsOrderedRing (quadratic d) (IsPositive d)) {c after : Component} (lawful : IsLawful d c) (e : IsShortened d c after) where
   -- the end of what is left
   row_end : add after.base after.total ≡ sub (add c.base c.total) e.cut
@@ -106,19 +122,6 @@ module _ {d : ℕ} (L : IsOrderedRing (quadratic d) (IsPositive d)) {c after : C
   -- no letter begins before the component does
   begins_within : (old : Letter) → IsIn old c.top → IsAtMost (quadratic d) (IsPositive d) c.base (bottom_left c old.name)
   begins_within old h = (takes_within L lawful (takes_left_end L lawful old h)).1.from_left
-
-  -- a letter with the left ends of one before, and at most as long, takes what that takes
-  taken_by_old : {letter : Letter} {p z : Quadratic} (old : Letter) → IsIn old c.top → top_left after letter.name ≡ top_left c old.name → bottom_left after letter.name ≡ bottom_left c old.name
-      → IsAtMost (quadratic d) (IsPositive d) letter.length old.length → Takes d after letter p z → Takes d c old p z
-  taken_by_old {letter} {p} {z} old h top bottom shorter t = record {
-    there = h;
-    from_left = subst (λ a. IsAtMost (quadratic d) (IsPositive d) a p) top t.from_left;
-    before_right =
-        order.less_of_less_at_most L p (add (top_left c old.name) letter.length) (add (top_left c old.name) old.length)
-        (subst (λ a. IsLess (quadratic d) (IsPositive d) p (add a letter.length)) top t.before_right)
-        (order.add_at_most_add_left L (top_left c old.name) letter.length old.length shorter);
-    beyond = t.beyond ∙ (λ i. moved (quadratic d) (top i) (bottom i) p);
-  }
 
   cut_shorter : {letter : Letter} → IsCut d c after e.y letter e.cut → IsAtMost (quadratic d) (IsPositive d) letter.length e.y.length
   cut_shorter {letter} k = subst (λ l. IsAtMost (quadratic d) (IsPositive d) l e.y.length) (sym k.length) (sub_at_most L e.y.length e.cut e.long)
@@ -211,7 +214,7 @@ module _ {d : ℕ} (L : IsOrderedRing (quadratic d) (IsPositive d)) {c after : C
       | inr k ↦ elim k [ inl m ↦ cut_within m t | inr m ↦ joins_within m t ]
     ];
     taken = λ letter p z t. elim (e.letters letter t.there) [
-      | inl k ↦ once k.0 (taken_by_old k.0 k.1.there k.1.top k.1.bottom k.1.shorter t) k.1.back
-      | inr k ↦ elim k [ inl m ↦ once e.y (taken_by_old e.y e.last.there m.top m.bottom (cut_shorter m) t) m.back | inr m ↦ taken_twice m t ]
+      | inl k ↦ once k.0 (taken_by_old L k.0 k.1.there k.1.top k.1.bottom k.1.shorter t) k.1.back
+      | inr k ↦ elim k [ inl m ↦ once e.y (taken_by_old L e.y e.last.there m.top m.bottom (cut_shorter m) t) m.back | inr m ↦ taken_twice m t ]
     ];
   }
