@@ -1,4 +1,5 @@
 pub mod DividedComponents
+pub mod EventReturns
 pub mod LeftEnds
 pub mod NamedLetters
 pub mod RowIntervals
