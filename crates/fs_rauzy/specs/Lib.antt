@@ -11,3 +11,4 @@ pub mod SplitsInPlace
 pub mod States
 pub mod StatesInPlace
 pub mod Steps
+pub mod Towers
