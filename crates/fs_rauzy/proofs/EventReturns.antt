@@ -18,7 +18,7 @@ use Rattle.fs_iet.proofs.TakenPositions.{takes_within}
 use Rattle.fs_rauzy.specs.Events.{Outcome, Makes, splits, closes, wins_above, wins_below, merges}
 use Rattle.fs_rauzy.specs.FirstReturns.{GivesReturns, AllGiveReturns, KeepsReturns}
 use Rattle.fs_rauzy.proofs.DividedComponents.{divided_by_split, taken_by_left, taken_by_right}
-use Rattle.fs_rauzy.proofs.EventRows.{split_left_lawful, split_right_lawful}
+use Rattle.fs_rauzy.proofs.EventRows.{won_above_lawful, won_below_lawful, merged_lawful, split_left_lawful, split_right_lawful}
 use Rattle.fs_rauzy.proofs.ShortenedComponents.{shortened_by_top, shortened_by_bottom, shortened_by_merge}
 use Rattle.fs_rauzy.proofs.TakenAfter.{TakenAs, once, twice, IsTakenFrom, taken_of_shortened}
 
@@ -61,11 +61,11 @@ module _ (s : GluedPolygons) (v : PlaneVector) (surface : IsTranslationSurface s
       )
   kept lawful (closes c rest) g = g.1
   kept lawful (wins_above c after rest won) g =
-      let L = surface_order s surface in (returns_of_taken g.0 (taken_of_shortened L lawful.0 (shortened_by_top L lawful.0 won)), g.1)
+      let L = surface_order s surface in (returns_of_taken g.0 (taken_of_shortened L lawful.0 (shortened_by_top L lawful.0 (won_above_lawful L lawful.0 won) won) (won_above_lawful L lawful.0 won)), g.1)
   kept lawful (wins_below c after rest won) g =
-      let L = surface_order s surface in (returns_of_taken g.0 (taken_of_shortened L lawful.0 (shortened_by_bottom L lawful.0 won)), g.1)
+      let L = surface_order s surface in (returns_of_taken g.0 (taken_of_shortened L lawful.0 (shortened_by_bottom L lawful.0 (won_below_lawful L lawful.0 won) won) (won_below_lawful L lawful.0 won)), g.1)
   kept lawful (merges c after rest found merged) g =
-      let L = surface_order s surface in (returns_of_taken g.0 (taken_of_shortened L lawful.0 (shortened_by_merge L lawful.0 merged)), g.1)
+      let L = surface_order s surface in (returns_of_taken g.0 (taken_of_shortened L lawful.0 (shortened_by_merge L lawful.0 (merged_lawful L lawful.0 merged) merged) (merged_lawful L lawful.0 merged)), g.1)
 
   -- the exchange of a surface and a direction gives first returns: each is one crossing
   pub exchange_gives_returns : {d : ℕ} {c : Component} → s.d ≡ d → IsExchange s v c → IsLawful d c → GivesReturns s v c

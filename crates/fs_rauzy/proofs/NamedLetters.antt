@@ -7,13 +7,14 @@ use Rattle.fs_quadratic.specs.Ring.{Quadratic, sub}
 use Rattle.fs_gluing.specs.Exchanges.{Letter, names_of, length_of}
 use Rattle.fs_iet.proofs.LetterRows.{length_of_letter}
 use Rattle.fs_rauzy.specs.Events.{with_letter, won_over}
+use Rattle.fs_rauzy.proofs.LetterChanges.{with_letter-names}
 
 -- ---- the choice by a name
 
-pub choose_same : {X : Type 0} (a b : ℕ) (x y : X) → a ≡ b → (if a == b then x else y) ≡ x
+choose_same : {X : Type 0} (a b : ℕ) (x y : X) → a ≡ b → (if a == b then x else y) ≡ x
 choose_same a b x y e = elim (eqb_tells a b) [ inl h ↦ ap (λ t. if t then x else y) h.0 | inr h ↦ absurd (h.1 e) ]
 
-pub choose_other : {X : Type 0} (a b : ℕ) (x y : X) → a ≢ b → (if a == b then x else y) ≡ y
+choose_other : {X : Type 0} (a b : ℕ) (x y : X) → a ≢ b → (if a == b then x else y) ≡ y
 choose_other a b x y n = elim (eqb_tells a b) [ inl h ↦ absurd (n h.1) | inr h ↦ ap (λ t. if t then x else y) h.0 ]
 
 pub same_name_or_not : (a b : ℕ) → (a ≡ b) ⊎ (a ≢ b)
@@ -22,17 +23,6 @@ same_name_or_not a b = elim (eqb_tells a b) [ inl h ↦ inl h.1 | inr h ↦ inr 
 -- ---- one letter in the place of that of its name
 
 module _ (new : Letter) where
-  -- the names stay
-  pub names_with : (letters : List Letter) → names_of (with_letter new letters) ≡ names_of letters
-  names_with [] = refl
-  names_with (letter ∷ letters) = λ i. name_stays i ∷ names_with letters i
-    where
-      name_stays : (if letter.name == new.name then new else letter).name ≡ letter.name
-      name_stays = elim (eqb_tells letter.name new.name) [
-        | inl h ↦ ap (λ (t : Bool). (if t then new else letter).name) h.0 ∙ sym h.1
-        | inr h ↦ ap (λ (t : Bool). (if t then new else letter).name) h.0
-      ]
-
   -- the lengths of other names stay
   pub length_of_others : (letters : List Letter) (name : ℕ) → name ≢ new.name → length_of (with_letter new letters) name ≡ length_of letters name
   length_of_others [] name n = refl
@@ -83,13 +73,14 @@ length_of_rearranged letters others p q to name h =
 
 -- ---- lengths after a won comparison
 
+-- two letters in the place of those of their names change no name
+pub names_after : (lost won : Letter) (letters : List Letter) → names_of (with_letter lost (with_letter won letters)) ≡ names_of letters
+names_after lost won letters = with_letter-names lost (with_letter won letters) ∙ with_letter-names won letters
+
 module _ (letters : List Letter) (distinct : IsDistinct (names_of letters)) (winner loser lost : Letter) (winner_there : IsIn winner letters) (loser_there : IsIn loser letters)
     (differ : winner.name ≢ loser.name) (named : lost.name ≡ loser.name) (as_long : lost.length ≡ loser.length) where
   abbrev pub after_won : List Letter
   after_won = with_letter lost (with_letter (won_over winner loser) letters)
-
-  pub names_after : names_of after_won ≡ names_of letters
-  names_after = names_with lost (with_letter (won_over winner loser) letters) ∙ names_with (won_over winner loser) letters
 
   -- the winner is shorter by the loser
   pub length_of_winner : length_of after_won winner.name ≡ sub winner.length loser.length
@@ -101,7 +92,7 @@ module _ (letters : List Letter) (distinct : IsDistinct (names_of letters)) (win
   length_of_loser =
       ap (length_of after_won) (sym named)
       ∙ length_of_new lost (with_letter (won_over winner loser) letters)
-      (subst (IsIn lost.name) (sym (names_with (won_over winner loser) letters))
+      (subst (IsIn lost.name) (sym (with_letter-names (won_over winner loser) letters))
       (subst (λ name. IsIn name (names_of letters)) (sym named) (in_map (λ (l : Letter). l.name) loser letters loser_there)))
       ∙ as_long ∙ sym (length_of_letter letters loser distinct loser_there)
 
