@@ -6,11 +6,9 @@ use Rattle.fs_lists.proofs.Members.{in_append_left, in_append_right, in_map, in_
 use Rattle.fs_ring.specs.OrderedRing.{IsOrderedRing, IsAtMost}
 use Rattle.fs_ring.proofs.Order as order
 use Rattle.fs_ring.proofs.Solver.{identity, derived, ◌⊕◌, ◌⊖◌, ◌≐◌, ◌from◌, numeral}
-use Rattle.fs_quadratic.specs.Ring.{Quadratic, quadratic, IsPositive, add, sub}
-use Rattle.fs_plane.specs.Vector.{PlaneVector}
+use Rattle.fs_quadratic.specs.Ring.{Quadratic, quadratic, IsPositive, add}
 use Rattle.fs_convex.proofs.Rows.{Tiles, tiles_bounds}
-use Rattle.fs_gluing.specs.Exchanges.{Letter, Component, IsLawful, names_of, length_of, length_before, top_left, bottom_left, Takes}
-use Rattle.fs_iet.specs.FirstReturns.{IsBetween}
+use Rattle.fs_gluing.specs.Exchanges.{Letter, Component, IsLawful, names_of, length_of, top_left, bottom_left, Takes}
 use Rattle.fs_iet.proofs.LetterRows.{length_of_letter, name_long, name_in_top, name_in_bottom, bottom_tiles}
 use Rattle.fs_iet.proofs.TakenPositions.{takes_within}
 use Rattle.fs_rauzy.specs.declared.events.Found.{Found}

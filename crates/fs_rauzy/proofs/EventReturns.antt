@@ -1,10 +1,9 @@
 -- The exchange of a direction gives first returns, and each event keeps them.
-use Rattle.std.proofs.Common.{◌≡◌, ◌≢◌, ℕ, ◌+◌, List, length, sym, ap, ◌∙◌, subst, arith}
+use Rattle.std.proofs.Common.{◌≡◌, ◌≢◌, ℕ, ◌+◌, List, length, sym, ◌∙◌, subst, arith}
 use Rattle.std.specs.List.{AllByRecursion}
-use Rattle.fs_ring.specs.OrderedRing.{IsOrderedRing}
 use Rattle.fs_ring.proofs.Order as order
 use Rattle.fs_ring.proofs.RingLaws as ring_laws
-use Rattle.fs_quadratic.specs.Ring.{Quadratic, quadratic, IsPositive, add, zero as nil}
+use Rattle.fs_quadratic.specs.Ring.{Quadratic, add, zero as nil}
 use Rattle.fs_plane.specs.Vector.{PlaneVector, vector_zero}
 use Rattle.fs_gluing.specs.CrossingMap.{block_start}
 use Rattle.fs_gluing.specs.Exchanges.{Letter, Component, IsLawful, Takes, IsExchange}
@@ -38,15 +37,15 @@ module _ (s : GluedPolygons) (v : PlaneVector) (surface : IsTranslationSurface s
           let first = g.returns old y z u in (
             first.0,
             subst (IsFirstReturn s v after.base (add after.base after.total) first.0 y z) (sym e)
-            (first_return_within s surface v some k.from_left k.to_right first.1 (k.within letter y z t)),
+                (first_return_within s surface v some k.from_left k.to_right first.1 (k.within letter y z t)),
           )
       go letter y z t (twice a b u taken out taken2 e) =
           let first = g.returns a y u taken in
           let second = g.returns b u z taken2 in (
             first.0 + second.0,
             subst (IsFirstReturn s v after.base (add after.base after.total) (first.0 + second.0) y z) (sym e)
-            (first_return_later s surface v some k.from_left k.to_right first.1 out
-            (first_return_within s surface v some k.from_left k.to_right second.1 (k.within letter y z t))),
+                (first_return_later s surface v some k.from_left k.to_right first.1 out
+                (first_return_within s surface v some k.from_left k.to_right second.1 (k.within letter y z t))),
           )
 
   kept : {components : List Component} {outcome : Outcome} → AllByRecursion (IsLawful s.d) components → Makes s.d components outcome → AllGiveReturns s v components

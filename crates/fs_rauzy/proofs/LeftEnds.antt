@@ -1,14 +1,13 @@
 -- What letters have after a won comparison or a merge of those before: left ends stay as positions, but for those of one letter.
-use Rattle.std.proofs.Common.{◌≡◌, ◌≢◌, ◌⊎◌, ℕ, List, [], ◌∷◌, ◌++◌, refl, sym, ap, ◌∙◌, subst, inl, inr}
+use Rattle.std.proofs.Common.{◌≡◌, ◌≢◌, ◌⊎◌, ℕ, List, [], ◌∷◌, ◌++◌, refl, sym, ap, ◌∙◌, subst, inl}
 use Rattle.std.proofs.lemmas.List.{map-append}
 use Rattle.fs_lists.specs.Members.{IsIn, IsDistinct}
-use Rattle.fs_lists.proofs.Members.{in_append_right}
 use Rattle.fs_ring.specs.OrderedRing.{IsOrderedRing, IsAtMost}
 use Rattle.fs_ring.proofs.Order as order
 use Rattle.fs_ring.proofs.Signs as signs
 use Rattle.fs_ring.proofs.Solver.{identity, ◌⊕◌, ◌⊖◌, ◌≐◌}
 use Rattle.fs_quadratic.specs.Ring.{Quadratic, quadratic, IsPositive, add, sub}
-use Rattle.fs_plane.specs.Vector.{PlaneVector, vector_add}
+use Rattle.fs_plane.specs.Vector.{vector_add}
 use Rattle.fs_convex.proofs.Rows.{Tiles}
 use Rattle.fs_gluing.specs.Exchanges.{Letter, Component, IsLawful, names_of, length_of, length_before, top_left, bottom_left}
 use Rattle.fs_iet.proofs.LetterRows.{row_tiles, total_of_names, length_of_letter, bottom_tiles}

@@ -1,5 +1,5 @@
 -- A letter that takes the place of the one of its name: names, lengths by names, and members.
-use Rattle.std.proofs.Common.{◌≡◌, ◌≢◌, ◌⊎◌, ℕ, ◌==◌, if◌then◌else◌, Bool, List, [], ◌∷◌, refl, sym, ap, ◌∙◌, subst, inl, inr}
+use Rattle.std.proofs.Common.{◌≡◌, ◌≢◌, ◌⊎◌, ℕ, ◌==◌, if◌then◌else◌, List, [], ◌∷◌, refl, sym, ap, ◌∙◌, subst, inl, inr}
 use Rattle.std.proofs.lemmas.Bool.Decides.{eqb_tells}
 use Rattle.fs_lists.specs.Members.{IsIn, IsDistinct}
 use Rattle.fs_lists.proofs.Members.{in_map, in_map_cases}
@@ -28,13 +28,13 @@ module _ (new : Letter) where
   length_of_others [] name n = refl
   length_of_others (letter ∷ letters) name n = elim (same_name_or_not letter.name new.name) [
     | inl e ↦
-      ap (λ (l : Letter). if l.name == name then l.length else length_of (with_letter new letters) name) (choose_same letter.name new.name new letter e)
-      ∙ choose_other new.name name new.length (length_of (with_letter new letters) name) (λ f. n (sym f))
-      ∙ length_of_others letters name n
-      ∙ sym (choose_other letter.name name letter.length (length_of letters name) (λ f. n (sym f ∙ e)))
+        ap (λ (l : Letter). if l.name == name then l.length else length_of (with_letter new letters) name) (choose_same letter.name new.name new letter e)
+        ∙ choose_other new.name name new.length (length_of (with_letter new letters) name) (λ f. n (sym f))
+        ∙ length_of_others letters name n
+        ∙ sym (choose_other letter.name name letter.length (length_of letters name) (λ f. n (sym f ∙ e)))
     | inr m ↦
-      ap (λ (l : Letter). if l.name == name then l.length else length_of (with_letter new letters) name) (choose_other letter.name new.name new letter m)
-      ∙ ap (λ (q : Quadratic). if letter.name == name then letter.length else q) (length_of_others letters name n)
+        ap (λ (l : Letter). if l.name == name then l.length else length_of (with_letter new letters) name) (choose_other letter.name new.name new letter m)
+        ∙ ap (λ (q : Quadratic). if letter.name == name then letter.length else q) (length_of_others letters name n)
   ]
 
   -- that of its name is its own
@@ -42,12 +42,12 @@ module _ (new : Letter) where
   length_of_new [] h = absurd h
   length_of_new (letter ∷ letters) h = elim (same_name_or_not letter.name new.name) [
     | inl e ↦
-      ap (λ (l : Letter). if l.name == new.name then l.length else length_of (with_letter new letters) new.name) (choose_same letter.name new.name new letter e)
-      ∙ choose_same new.name new.name new.length (length_of (with_letter new letters) new.name) refl
+        ap (λ (l : Letter). if l.name == new.name then l.length else length_of (with_letter new letters) new.name) (choose_same letter.name new.name new letter e)
+        ∙ choose_same new.name new.name new.length (length_of (with_letter new letters) new.name) refl
     | inr m ↦
-      ap (λ (l : Letter). if l.name == new.name then l.length else length_of (with_letter new letters) new.name) (choose_other letter.name new.name new letter m)
-      ∙ choose_other letter.name new.name letter.length (length_of (with_letter new letters) new.name) m
-      ∙ length_of_new letters (elim h [ inl e ↦ absurd (m (sym e)) | inr k ↦ k ])
+        ap (λ (l : Letter). if l.name == new.name then l.length else length_of (with_letter new letters) new.name) (choose_other letter.name new.name new letter m)
+        ∙ choose_other letter.name new.name letter.length (length_of (with_letter new letters) new.name) m
+        ∙ length_of_new letters (elim h [ inl e ↦ absurd (m (sym e)) | inr k ↦ k ])
   ]
 
   -- a letter is the new one, or one of the others
@@ -57,8 +57,8 @@ module _ (new : Letter) where
   in_with_cases (other ∷ letters) letter (inl h) = elim (same_name_or_not other.name new.name) [
     | inl e ↦ inl (h ∙ choose_same other.name new.name new other e)
     | inr m ↦
-      let one : letter ≡ other = h ∙ choose_other other.name new.name new other m in
-      inr (inl one, λ f. m (ap (λ (l : Letter). l.name) (sym one) ∙ f))
+        let one : letter ≡ other = h ∙ choose_other other.name new.name new other m in
+        inr (inl one, λ f. m (ap (λ (l : Letter). l.name) (sym one) ∙ f))
   ]
 
 -- ---- rows with the same letters
@@ -101,8 +101,8 @@ module _ (letters : List Letter) (distinct : IsDistinct (names_of letters)) (win
   length_of_rest name n = elim (same_name_or_not name loser.name) [
     | inl e ↦ ap (length_of after_won) e ∙ length_of_loser ∙ ap (length_of letters) (sym e)
     | inr m ↦
-      length_of_others lost (with_letter (won_over winner loser) letters) name (λ e. m (e ∙ named))
-      ∙ length_of_others (won_over winner loser) letters name n
+        length_of_others lost (with_letter (won_over winner loser) letters) name (λ e. m (e ∙ named))
+        ∙ length_of_others (won_over winner loser) letters name n
   ]
 
   -- the letters are the loser, the winner and the others

@@ -24,8 +24,8 @@ module _ {A X : Type 0} (R : Operations A) (left len left2 len2 : X → A) where
   begin_alike y z w [] ys ws same t v = record { lefts = λ x h. absurd h; reached = y; after = t; after2 = v }
   begin_alike y z w (x ∷ xs) ys ws same t v =
       let rest =
-          begin_alike (R.add y (len x)) z w xs ys ws (λ u h. same u (inr h)) t.1
-          (subst (λ l. Tiles R left2 len2 (R.add y l) (xs ++ ws) w) (same x (inl refl)) v.1) in
+      begin_alike (R.add y (len x)) z w xs ys ws (λ u h. same u (inr h)) t.1
+      (subst (λ l. Tiles R left2 len2 (R.add y l) (xs ++ ws) w) (same x (inl refl)) v.1) in
       record {
         lefts = λ u h. elim h [ inl e ↦ ap left2 e ∙ v.0 ∙ sym t.0 ∙ ap left (sym e) | inr k ↦ rest.lefts u k ];
         reached = rest.reached;

@@ -1,89 +1,29 @@
 -- A won comparison or a merge shortens the component by a length that both last letters have at their ends.
-use Rattle.std.proofs.Common.{◌≡◌, ◌≢◌, ◌⊎◌, ℕ, Option, List, [], ◌∷◌, ◌++◌, map, refl, sym, ap, ◌∙◌, subst, inl, inr, append-nil}
+use Rattle.std.proofs.Common.{◌≡◌, ◌≢◌, ℕ, Option, List, [], ◌∷◌, refl, sym, ap, ◌∙◌, subst, inl, inr, append-nil}
 use Rattle.std.proofs.lemmas.List.Sorted.{IsPermutation-sym}
 use Rattle.fs_lists.specs.Members.{IsIn, IsDistinct}
-use Rattle.fs_lists.proofs.Members.{in_append_left, in_append_right, in_append_cases, in_map, in_map_cases}
+use Rattle.fs_lists.proofs.Members.{in_append_left, in_append_cases, in_map}
 use Rattle.fs_ring.specs.OrderedRing.{IsOrderedRing, IsAtMost}
 use Rattle.fs_ring.proofs.Order as order
 use Rattle.fs_ring.proofs.PlaneSolver.{vector_identity, ◌≐ᵥ◌}
 use Rattle.fs_ring.proofs.Solver.{expressions as E}
 use Rattle.fs_ring.specs.Vector.{add_vector}
-use Rattle.fs_quadratic.specs.Ring.{Quadratic, quadratic, IsPositive, add, sub, total}
-use Rattle.fs_plane.specs.Vector.{PlaneVector, vector_add}
+use Rattle.fs_quadratic.specs.Ring.{quadratic, IsPositive, add, sub}
 use Rattle.fs_convex.proofs.Rows.{Tiles}
-use Rattle.fs_gluing.specs.Exchanges.{Letter, Component, IsLawful, names_of, length_of, length_before, top_left, bottom_left}
+use Rattle.fs_gluing.specs.Exchanges.{Letter, Component, IsLawful, names_of, length_of, top_left, bottom_left}
 use Rattle.fs_iet.proofs.LetterRows.{length_of_letter, letter_long, name_in_top, name_in_bottom, bottom_distinct, bottom_tiles}
 use Rattle.fs_iet.proofs.Rearrangements.{in_permutation}
 use Rattle.fs_rauzy.specs.declared.events.Found.{Found}
 use Rattle.fs_rauzy.specs.Events.{won_over, lost_above, lost_below, merged_of, IsWonByTop, IsWonByBottom, IsMerged}
 use Rattle.fs_rauzy.proofs.EventRows.{last_in}
-use Rattle.fs_rauzy.proofs.LeftEnds.{IsShortened, left_in, TilesIn, sub_add, add_none, sub_at_most, top_names_tiles, names_top, not_last_above, top_row}
+use Rattle.fs_rauzy.proofs.LeftEnds.{IsShortened, TilesIn, sub_add, add_none, sub_at_most, top_names_tiles, names_top, not_last_above, top_row}
 use Rattle.fs_rauzy.proofs.LetterChanges.{with_letter-names}
 use Rattle.fs_rauzy.proofs.NamedLetters.{length_of_new, length_of_others, in_with_cases, same_name_or_not, length_of_rearranged, names_after, length_of_winner, length_of_rest, in_after_cases}
-use Rattle.fs_rauzy.proofs.RowEnds.{distinct_left, distinct_right, distinct_across, moved_permutation, moved_names}
-use Rattle.fs_rauzy.proofs.RowIntervals.{begin_alike, kept_lefts, moved_lefts, moved_left_is, put_lefts, put_left_is}
+use Rattle.fs_rauzy.proofs.NameRows.{kept_row, moved_row, put_row}
+use Rattle.fs_rauzy.proofs.RowEnds.{distinct_left, moved_permutation, moved_names}
+use Rattle.fs_rauzy.proofs.RowIntervals.{begin_alike}
 
 module _ {d : ℕ} (L : IsOrderedRing (quadratic d) (IsPositive d)) {c after : Component} (lawful : IsLawful d c) (lawful_after : IsLawful d after) where
-  -- ---- rows of names
-
-  module _ (base : after.base ≡ c.base) (p q : ℕ) (rest : (name : ℕ) → IsIn name (names_of c.top) → name ≢ p → length_of after.top name ≡ length_of c.top name)
-      (old new : List ℕ) (distinct : IsDistinct old) (tiles : TilesIn d c old old) (tiles2 : TilesIn d after new new) (in_old : (name : ℕ) → IsIn name old → IsIn name (names_of c.top)) where
-    tiles_after : (row : List ℕ) → new ≡ row → Tiles (quadratic d) (left_in after new) (length_of after.top) c.base row (add after.base after.total)
-    tiles_after row e = subst (λ y. Tiles (quadratic d) (left_in after new) (length_of after.top) y row (add after.base after.total)) base (subst (TilesIn d after new) e tiles2)
-
-    -- a row that stays, in which the last letter becomes shorter
-    kept_row : (before : List ℕ) → old ≡ before ++ p ∷ [] → new ≡ old → (name : ℕ) → IsIn name old → left_in after new name ≡ left_in c old name
-    kept_row before was same name h =
-        kept_lefts (quadratic d) (left_in c old) (length_of c.top) (left_in after new) (length_of after.top) c.base (add c.base c.total) (add after.base after.total) before p
-        (λ other k.
-            rest other (in_old other (subst (IsIn other) (sym was) (in_append_left other before (p ∷ []) k)))
-            (λ e. distinct_across before (p ∷ []) other (subst (λ (names : List ℕ). IsDistinct names) was distinct) k (inl e)))
-        (subst (TilesIn d c old) was tiles) (tiles_after (before ++ p ∷ []) (same ∙ was)) name (subst (IsIn name) was h)
-
-    -- one in which an item changes its place
-    module _ (left right : List ℕ) (was : old ≡ left ++ p ∷ (right ++ q ∷ [])) where
-      apart_before : IsDistinct (left ++ p ∷ (right ++ q ∷ []))
-      apart_before = subst (λ (names : List ℕ). IsDistinct names) was distinct
-
-      in_names : (name : ℕ) → IsIn name (left ++ p ∷ (right ++ q ∷ [])) → IsIn name (names_of c.top)
-      in_names name h = in_old name (subst (IsIn name) (sym was) h)
-
-      same_left : (name : ℕ) → IsIn name left → length_of after.top name ≡ length_of c.top name
-      same_left name h =
-          rest name (in_names name (in_append_left name left (p ∷ (right ++ q ∷ [])) h)) (λ e. distinct_across left (p ∷ (right ++ q ∷ [])) name apart_before h (inl e))
-
-      same_right : (name : ℕ) → IsIn name right → length_of after.top name ≡ length_of c.top name
-      same_right name h =
-          let k = in_append_left name right (q ∷ []) h in
-          rest name (in_names name (in_append_right name left (p ∷ (right ++ q ∷ [])) (inr k))) (λ e. (distinct_right left (p ∷ (right ++ q ∷ [])) apart_before).0 name k (sym e))
-
-      tiles_before : TilesIn d c old (left ++ p ∷ (right ++ q ∷ []))
-      tiles_before = subst (TilesIn d c old) was tiles
-
-      -- it is put behind another, which becomes shorter by it
-      moved_row : new ≡ left ++ p ∷ (q ∷ right) → add (length_of after.top p) (length_of after.top q) ≡ length_of c.top p
-          → ((name : ℕ) → IsIn name old → name ≢ q → left_in after new name ≡ left_in c old name) × (left_in after new q ≡ add (left_in c old p) (length_of after.top p))
-      moved_row becomes shorter =
-          let v = tiles_after (left ++ p ∷ (q ∷ right)) becomes in (
-            (λ name h n.
-                moved_lefts (quadratic d) (left_in c old) (length_of c.top) (left_in after new) (length_of after.top) c.base (add c.base c.total) (add after.base after.total)
-                left p q right same_left same_right tiles_before L shorter v name (subst (IsIn name) was h) n),
-            moved_left_is (quadratic d) (left_in c old) (length_of c.top) (left_in after new) (length_of after.top) c.base (add c.base c.total) (add after.base after.total)
-            left p q right same_left same_right tiles_before L shorter v,
-          )
-
-      -- it is put in the place of another, which was as long
-      put_row : new ≡ left ++ q ∷ right → length_of after.top q ≡ length_of c.top p
-          → ((name : ℕ) → IsIn name old → name ≢ p → name ≢ q → left_in after new name ≡ left_in c old name) × (left_in after new q ≡ left_in c old p)
-      put_row becomes equal =
-          let v = tiles_after (left ++ q ∷ right) becomes in (
-            (λ name h m n.
-                put_lefts (quadratic d) (left_in c old) (length_of c.top) (left_in after new) (length_of after.top) c.base (add c.base c.total) (add after.base after.total)
-                left p q right same_left same_right tiles_before equal v name (subst (IsIn name) was h) m n),
-            put_left_is (quadratic d) (left_in c old) (length_of c.top) (left_in after new) (length_of after.top) c.base (add c.base c.total) (add after.base after.total)
-            left p q right same_left same_right tiles_before equal v,
-          )
-
   -- ---- names
 
   name_there : (letter : Letter) → IsIn letter c.top → IsIn letter.name (names_of c.top)
@@ -117,13 +57,13 @@ module _ {d : ℕ} (L : IsOrderedRing (quadratic d) (IsPositive d)) {c after : C
 
     top_stays : (name : ℕ) → IsIn name (names_of c.top) → top_left after name ≡ top_left c name
     top_stays name h =
-        kept_row w.base w.x.name w.y.name top_rest (names_of c.top) (names_of after.top) lawful.names (top_names_tiles L lawful) (top_names_tiles L lawful_after) (λ name h. h)
+        kept_row L c after w.base w.x.name w.y.name top_rest (names_of c.top) (names_of after.top) lawful.names (top_names_tiles L lawful) (top_names_tiles L lawful_after) (λ name h. h)
         (names_of w.last.before_top) (names_top L lawful w.last) top_names name h
 
     bottom_moves : ((name : ℕ) → IsIn name c.bottom → name ≢ w.y.name → bottom_left after name ≡ bottom_left c name)
         × (bottom_left after w.y.name ≡ add (bottom_left c w.x.name) (length_of after.top w.x.name))
     bottom_moves =
-        moved_row w.base w.x.name w.y.name top_rest c.bottom after.bottom (bottom_distinct L lawful) (bottom_tiles L lawful) (bottom_tiles L lawful_after) (name_in_top L lawful)
+        moved_row L c after w.base w.x.name w.y.name top_rest c.bottom after.bottom (bottom_distinct L lawful) (bottom_tiles L lawful) (bottom_tiles L lawful_after) (name_in_top L lawful)
         w.bottom.left w.bottom.right w.bottom.was w.bottom.becomes top_shorter
 
     -- the component is shorter by the last letter of the bottom row
@@ -147,22 +87,28 @@ module _ {d : ℕ} (L : IsOrderedRing (quadratic d) (IsPositive d)) {c after : C
               bottom = ap (λ (l : Letter). bottom_left after l.name) e ∙ bottom_moves.1 ∙ ap (add (bottom_left c w.x.name)) top_length_x;
             })
             | inr k ↦ elim k [
-              | inl e ↦ inl (w.x, record {
-                there = last_in w.last;
-                back = ap (λ (l : Letter). l.back) e;
-                top = ap (λ (l : Letter). top_left after l.name) e ∙ top_stays w.x.name (name_there w.x (last_in w.last));
-                bottom = ap (λ (l : Letter). bottom_left after l.name) e ∙ bottom_moves.0 w.x.name (name_below w.x (last_in w.last)) w.last.differ;
-                shorter =
-                    subst (λ l. IsAtMost (quadratic d) (IsPositive d) l w.x.length) (sym (ap (λ (l : Letter). l.length) e))
-                    (sub_at_most L w.x.length w.y.length (letter_long L lawful w.y w.last.there));
-              })
-              | inr m ↦ inl (letter, record {
-                there = m.0;
-                back = refl;
-                top = top_stays letter.name (name_there letter m.0);
-                bottom = bottom_moves.0 letter.name (name_below letter m.0) m.2;
-                shorter = order.at_most_refl L letter.length;
-              })
+              | inl e ↦ inl (
+                w.x,
+                record {
+                  there = last_in w.last;
+                  back = ap (λ (l : Letter). l.back) e;
+                  top = ap (λ (l : Letter). top_left after l.name) e ∙ top_stays w.x.name (name_there w.x (last_in w.last));
+                  bottom = ap (λ (l : Letter). bottom_left after l.name) e ∙ bottom_moves.0 w.x.name (name_below w.x (last_in w.last)) w.last.differ;
+                  shorter =
+                      subst (λ l. IsAtMost (quadratic d) (IsPositive d) l w.x.length) (sym (ap (λ (l : Letter). l.length) e))
+                      (sub_at_most L w.x.length w.y.length (letter_long L lawful w.y w.last.there));
+                },
+              )
+              | inr m ↦ inl (
+                letter,
+                record {
+                  there = m.0;
+                  back = refl;
+                  top = top_stays letter.name (name_there letter m.0);
+                  bottom = bottom_moves.0 letter.name (name_below letter m.0) m.2;
+                  shorter = order.at_most_refl L letter.length;
+                },
+              )
             ]
           ];
     }
@@ -213,13 +159,13 @@ module _ {d : ℕ} (L : IsOrderedRing (quadratic d) (IsPositive d)) {c after : C
 
     bottom_stays : (name : ℕ) → IsIn name c.bottom → bottom_left after name ≡ bottom_left c name
     bottom_stays name h =
-        kept_row w.base w.y.name w.x.name bottom_rest c.bottom after.bottom (bottom_distinct L lawful) (bottom_tiles L lawful) (bottom_tiles L lawful_after) (name_in_top L lawful)
+        kept_row L c after w.base w.y.name w.x.name bottom_rest c.bottom after.bottom (bottom_distinct L lawful) (bottom_tiles L lawful) (bottom_tiles L lawful_after) (name_in_top L lawful)
         w.last.before_bottom w.last.bottom w.bottom name h
 
     top_moves : ((name : ℕ) → IsIn name (names_of c.top) → name ≢ w.x.name → top_left after name ≡ top_left c name)
         × (top_left after w.x.name ≡ add (top_left c w.y.name) (length_of after.top w.y.name))
     top_moves =
-        moved_row w.base w.y.name w.x.name bottom_rest (names_of c.top) (names_of after.top) lawful.names (top_names_tiles L lawful) (top_names_tiles L lawful_after) (λ name h. h)
+        moved_row L c after w.base w.y.name w.x.name bottom_rest (names_of c.top) (names_of after.top) lawful.names (top_names_tiles L lawful) (top_names_tiles L lawful_after) (λ name h. h)
         (moved_names w.moved).left (moved_names w.moved).right (moved_names w.moved).was (bottom_names ∙ (moved_names w.moved).becomes) bottom_shorter
 
     -- the component is shorter by the last letter of the top row
@@ -247,22 +193,28 @@ module _ {d : ℕ} (L : IsOrderedRing (quadratic d) (IsPositive d)) {c after : C
                   ∙ add_none L (bottom_left c w.x.name) w.x.length w.x.length refl;
             })
             | inr k ↦ elim k [
-              | inl e ↦ inl (w.y, record {
-                there = w.last.there;
-                back = ap (λ (l : Letter). l.back) e;
-                top = ap (λ (l : Letter). top_left after l.name) e ∙ top_moves.0 w.y.name (name_there w.y w.last.there) other_way;
-                bottom = ap (λ (l : Letter). bottom_left after l.name) e ∙ bottom_stays w.y.name (name_below w.y w.last.there);
-                shorter =
-                    subst (λ l. IsAtMost (quadratic d) (IsPositive d) l w.y.length) (sym (ap (λ (l : Letter). l.length) e))
-                    (sub_at_most L w.y.length w.x.length (letter_long L lawful w.x (last_in w.last)));
-              })
-              | inr m ↦ inl (letter, record {
-                there = in_top letter m.0;
-                back = refl;
-                top = top_moves.0 letter.name (name_there letter (in_top letter m.0)) m.2;
-                bottom = bottom_stays letter.name (name_below letter (in_top letter m.0));
-                shorter = order.at_most_refl L letter.length;
-              })
+              | inl e ↦ inl (
+                w.y,
+                record {
+                  there = w.last.there;
+                  back = ap (λ (l : Letter). l.back) e;
+                  top = ap (λ (l : Letter). top_left after l.name) e ∙ top_moves.0 w.y.name (name_there w.y w.last.there) other_way;
+                  bottom = ap (λ (l : Letter). bottom_left after l.name) e ∙ bottom_stays w.y.name (name_below w.y w.last.there);
+                  shorter =
+                      subst (λ l. IsAtMost (quadratic d) (IsPositive d) l w.y.length) (sym (ap (λ (l : Letter). l.length) e))
+                      (sub_at_most L w.y.length w.x.length (letter_long L lawful w.x (last_in w.last)));
+                },
+              )
+              | inr m ↦ inl (
+                letter,
+                record {
+                  there = in_top letter m.0;
+                  back = refl;
+                  top = top_moves.0 letter.name (name_there letter (in_top letter m.0)) m.2;
+                  bottom = bottom_stays letter.name (name_below letter (in_top letter m.0));
+                  shorter = order.at_most_refl L letter.length;
+                },
+              )
             ]
           ];
     }
@@ -292,9 +244,9 @@ module _ {d : ℕ} (L : IsOrderedRing (quadratic d) (IsPositive d)) {c after : C
     merged_rest name h n = elim (same_name_or_not name w.y.name) [
       | inl e ↦ ap (length_of after.top) e ∙ merged_length_y ∙ sym (length_of_letter c.top w.y lawful.names w.last.there) ∙ ap (length_of c.top) (sym e)
       | inr m ↦
-        ap (λ letters. length_of letters name) w.top
-        ∙ length_of_others (merged_of w.x w.y) w.last.before_top name m
-        ∙ sym (length_of_rearranged w.last.before_top c.top before_apart lawful.names in_c name (before_or_x name h n))
+          ap (λ letters. length_of letters name) w.top
+          ∙ length_of_others (merged_of w.x w.y) w.last.before_top name m
+          ∙ sym (length_of_rearranged w.last.before_top c.top before_apart lawful.names in_c name (before_or_x name h n))
     ]
 
     merged_top : (name : ℕ) → IsIn name (names_of c.top) → name ≢ w.x.name → top_left after name ≡ top_left c name
@@ -302,8 +254,8 @@ module _ {d : ℕ} (L : IsOrderedRing (quadratic d) (IsPositive d)) {c after : C
         let names = names_of w.last.before_top in
         let same : names_of after.top ≡ names = ap names_of w.top ∙ with_letter-names (merged_of w.x w.y) w.last.before_top in
         let v =
-            subst (λ y. Tiles (quadratic d) (top_left after) (length_of after.top) y names (add after.base after.total)) w.base
-            (subst (TilesIn d after (names_of after.top)) same (top_names_tiles L lawful_after)) in
+        subst (λ y. Tiles (quadratic d) (top_left after) (length_of after.top) y names (add after.base after.total)) w.base
+        (subst (TilesIn d after (names_of after.top)) same (top_names_tiles L lawful_after)) in
         (begin_alike (quadratic d) (top_left c) (length_of c.top) (top_left after) (length_of after.top) c.base (add c.base c.total) (add after.base after.total)
         names (w.x.name ∷ []) []
         (λ other k. merged_rest other (in_c_name other k) (not_last_above L lawful w.last other k))
@@ -317,7 +269,7 @@ module _ {d : ℕ} (L : IsOrderedRing (quadratic d) (IsPositive d)) {c after : C
     bottom_put : ((name : ℕ) → IsIn name c.bottom → name ≢ w.x.name → name ≢ w.y.name → bottom_left after name ≡ bottom_left c name)
         × (bottom_left after w.y.name ≡ bottom_left c w.x.name)
     bottom_put =
-        put_row w.base w.x.name w.y.name merged_rest c.bottom after.bottom (bottom_distinct L lawful) (bottom_tiles L lawful) (bottom_tiles L lawful_after) (name_in_top L lawful)
+        put_row L c after w.base w.x.name w.y.name merged_rest c.bottom after.bottom (bottom_distinct L lawful) (bottom_tiles L lawful) (bottom_tiles L lawful_after) (name_in_top L lawful)
         w.bottom.left w.bottom.right w.bottom.was w.bottom.becomes
         (merged_length_y ∙ sym w.equal ∙ sym (length_of_letter c.top w.x lawful.names (last_in w.last)))
 
@@ -343,13 +295,16 @@ module _ {d : ℕ} (L : IsOrderedRing (quadratic d) (IsPositive d)) {c after : C
           bottom = ap (λ (l : Letter). bottom_left after l.name) e ∙ bottom_put.1 ∙ add_none L (bottom_left c w.x.name) w.x.length w.x.length refl;
         })
         | inr m ↦
-          let n = not_last_above L lawful w.last letter.name (in_map (λ (l : Letter). l.name) letter w.last.before_top m.0) in
-          inl (letter, record {
-            there = in_c letter m.0;
-            back = refl;
-            top = merged_top letter.name (name_there letter (in_c letter m.0)) n;
-            bottom = bottom_put.0 letter.name (name_below letter (in_c letter m.0)) n m.1;
-            shorter = order.at_most_refl L letter.length;
-          })
+            let n = not_last_above L lawful w.last letter.name (in_map (λ (l : Letter). l.name) letter w.last.before_top m.0) in
+            inl (
+              letter,
+              record {
+                there = in_c letter m.0;
+                back = refl;
+                top = merged_top letter.name (name_there letter (in_c letter m.0)) n;
+                bottom = bottom_put.0 letter.name (name_below letter (in_c letter m.0)) n m.1;
+                shorter = order.at_most_refl L letter.length;
+              },
+            )
       ];
     }

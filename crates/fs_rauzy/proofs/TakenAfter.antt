@@ -1,5 +1,5 @@
 -- What a component takes after an event: what one letter takes before, or two letters one after the other; after a won comparison or a merge.
-use Rattle.std.proofs.Common.{◌≡◌, ◌⊎◌, ℕ, [], ◌∷◌, refl, sym, ap, ◌∙◌, subst, inl, inr}
+use Rattle.std.proofs.Common.{◌≡◌, ℕ, [], ◌∷◌, refl, sym, ◌∙◌, subst, inl, inr}
 use Rattle.fs_lists.specs.Members.{IsIn}
 use Rattle.fs_ring.specs.Operations.{Operations, sub as minus}
 use Rattle.fs_ring.specs.OrderedRing.{IsOrderedRing, IsLess, IsAtMost}
@@ -10,8 +10,8 @@ use Rattle.fs_quadratic.specs.Ring.{Quadratic, quadratic, IsPositive, add, sub}
 use Rattle.fs_plane.specs.Vector.{vector_add}
 use Rattle.fs_gluing.specs.Exchanges.{Letter, Component, IsLawful, top_left, bottom_left, Takes}
 use Rattle.fs_iet.specs.FirstReturns.{IsBetween}
-use Rattle.fs_iet.proofs.ShiftedIntervals.{moved, moved_from_left, moved_before_right}
-use Rattle.fs_iet.proofs.TakenPositions.{takes_within, takes_left_end}
+use Rattle.fs_iet.proofs.ShiftedIntervals.{moved, moved_before_right}
+use Rattle.fs_iet.proofs.TakenPositions.{takes_within}
 use Rattle.fs_rauzy.proofs.LeftEnds.{Joins, IsShortened, sub_at_most, top_ends, bottom_ends}
 use Rattle.fs_rauzy.proofs.EventRows.{last_in}
 
@@ -106,8 +106,8 @@ module _ {d : ℕ} (L : IsOrderedRing (quadratic d) (IsPositive d)) {c after : C
       let bottom = bottom_ends L lawful e.last in
       let begins : IsAtMost (quadratic d) (IsPositive d) (add ty (sub e.y.length e.cut)) p = subst (λ a. IsAtMost (quadratic d) (IsPositive d) a p) k.top t.from_left in
       let ends : IsLess (quadratic d) (IsPositive d) p (add (add ty (sub e.y.length e.cut)) e.cut) =
-          subst (λ l. IsLess (quadratic d) (IsPositive d) p (add (add ty (sub e.y.length e.cut)) l)) k.length
-          (subst (λ a. IsLess (quadratic d) (IsPositive d) p (add a letter.length)) k.top t.before_right) in
+      subst (λ l. IsLess (quadratic d) (IsPositive d) p (add (add ty (sub e.y.length e.cut)) l)) k.length
+      (subst (λ a. IsLess (quadratic d) (IsPositive d) p (add a letter.length)) k.top t.before_right) in
       twice e.y e.x u
       (record {
         there = e.last.there;
