@@ -1,20 +1,19 @@
 -- The parts of a component that is split: left ends stay, and each part takes what the component takes.
 use Rattle.std.proofs.Common.{◌≡◌, ℕ, ◌==◌, if◌then◌else◌, Bool, true, false, Option, is_some, List, [], ◌∷◌, ◌++◌, map, take, drop, refl, sym, ap, ◌∙◌, subst, append-nil, take-append-drop}
+use Rattle.std.proofs.lemmas.List.{map-append}
 use Rattle.fs_lists.specs.Members.{IsIn}
 use Rattle.fs_lists.proofs.Members.{in_append_left, in_append_right, in_map, in_map_cases}
 use Rattle.fs_ring.specs.OrderedRing.{IsOrderedRing, IsAtMost}
 use Rattle.fs_ring.proofs.Order as order
 use Rattle.fs_ring.proofs.Solver.{identity, derived, ◌⊕◌, ◌⊖◌, ◌≐◌, ◌from◌, numeral}
-use Rattle.fs_quadratic.specs.Ring.{Quadratic, quadratic, IsPositive, add, sub}
-use Rattle.fs_plane.specs.Vector.{PlaneVector}
+use Rattle.fs_quadratic.specs.Ring.{Quadratic, quadratic, IsPositive, add}
 use Rattle.fs_convex.proofs.Rows.{Tiles, tiles_bounds}
-use Rattle.fs_gluing.specs.Exchanges.{Letter, Component, IsLawful, names_of, length_of, length_before, top_left, bottom_left, Takes}
-use Rattle.fs_iet.specs.FirstReturns.{IsBetween}
+use Rattle.fs_gluing.specs.Exchanges.{Letter, Component, IsLawful, names_of, length_of, top_left, bottom_left, Takes}
 use Rattle.fs_iet.proofs.LetterRows.{length_of_letter, name_long, name_in_top, name_in_bottom, bottom_tiles}
 use Rattle.fs_iet.proofs.TakenPositions.{takes_within}
 use Rattle.fs_rauzy.specs.declared.events.Found.{Found}
 use Rattle.fs_rauzy.specs.Events.{without_start, without_end, prefix_sum, IsSplit}
-use Rattle.fs_rauzy.proofs.LeftEnds.{names_append, top_names_tiles}
+use Rattle.fs_rauzy.proofs.LeftEnds.{left_in, top_names_tiles}
 use Rattle.fs_rauzy.proofs.RowIntervals.{BeginAlike, begin_alike}
 use Rattle.fs_rauzy.proofs.TakenAfter.{TakenAs, IsTakenFrom, once, taken_by_old}
 
@@ -57,9 +56,6 @@ module _ {d : ℕ} (L : IsOrderedRing (quadratic d) (IsPositive d)) where
         ∙ ap (length_of c.top) (sym (source.2 ∙ old.1.named))
 
     module _ {left right : Component} (lawful_left : IsLawful d left) (lawful_right : IsLawful d right) (e : IsDivided c left right) where
-      abbrev left_in : Component → List ℕ → ℕ → Quadratic
-      left_in part row name = add part.base (length_before part.top name row)
-
       -- ---- left ends
 
       module _ (old first second : List ℕ)
@@ -169,7 +165,7 @@ divided_by_split {d} L {c} {left} {right} {k} {found} s =
           (λ i. add (left_total i) (s.right_part i).total)
           ∙ identity L.ring (prefix_sum c k ∷ c.total ∷ []) (λ p t. p ⊕ (t ⊖ p) ≐ t) refl;
       top =
-          ap names_of (sym (take-append-drop k c.top)) ∙ names_append (take k c.top) (drop k c.top)
+          ap names_of (sym (take-append-drop k c.top)) ∙ map-append (λ (l : Letter). l.name) (take k c.top) (drop k c.top)
           ∙ (λ i. names_of (sym left_top i) ++ sym right_names i);
       bottom = sym (take-append-drop k c.bottom) ∙ (λ i. (sym s.left_part i).bottom ++ (sym s.right_part i).bottom);
       lefts = λ letter h. (letter, record { there = in_left letter (subst (IsIn letter) left_top h); named = refl; length = refl; back = refl });

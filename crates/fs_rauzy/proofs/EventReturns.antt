@@ -1,10 +1,9 @@
 -- The exchange of a direction gives first returns, and each event keeps them.
-use Rattle.std.proofs.Common.{◌≡◌, ◌≢◌, ℕ, ◌+◌, List, length, sym, ap, ◌∙◌, subst, arith}
+use Rattle.std.proofs.Common.{◌≡◌, ◌≢◌, ℕ, ◌+◌, List, length, sym, ◌∙◌, subst, arith}
 use Rattle.std.specs.List.{AllByRecursion}
-use Rattle.fs_ring.specs.OrderedRing.{IsOrderedRing}
 use Rattle.fs_ring.proofs.Order as order
 use Rattle.fs_ring.proofs.RingLaws as ring_laws
-use Rattle.fs_quadratic.specs.Ring.{Quadratic, quadratic, IsPositive, add, zero as nil}
+use Rattle.fs_quadratic.specs.Ring.{Quadratic, add, zero as nil}
 use Rattle.fs_plane.specs.Vector.{PlaneVector, vector_zero}
 use Rattle.fs_gluing.specs.CrossingMap.{block_start}
 use Rattle.fs_gluing.specs.Exchanges.{Letter, Component, IsLawful, Takes, IsExchange}
@@ -18,7 +17,7 @@ use Rattle.fs_iet.proofs.TakenPositions.{takes_within}
 use Rattle.fs_rauzy.specs.Events.{Outcome, Makes, splits, closes, wins_above, wins_below, merges}
 use Rattle.fs_rauzy.specs.FirstReturns.{GivesReturns, AllGiveReturns, KeepsReturns}
 use Rattle.fs_rauzy.proofs.DividedComponents.{divided_by_split, taken_by_left, taken_by_right}
-use Rattle.fs_rauzy.proofs.EventRows.{split_left_lawful, split_right_lawful}
+use Rattle.fs_rauzy.proofs.EventRows.{won_above_lawful, won_below_lawful, merged_lawful, split_left_lawful, split_right_lawful}
 use Rattle.fs_rauzy.proofs.ShortenedComponents.{shortened_by_top, shortened_by_bottom, shortened_by_merge}
 use Rattle.fs_rauzy.proofs.TakenAfter.{TakenAs, once, twice, IsTakenFrom, taken_of_shortened}
 
@@ -38,15 +37,15 @@ module _ (s : GluedPolygons) (v : PlaneVector) (surface : IsTranslationSurface s
           let first = g.returns old y z u in (
             first.0,
             subst (IsFirstReturn s v after.base (add after.base after.total) first.0 y z) (sym e)
-            (first_return_within s surface v some k.from_left k.to_right first.1 (k.within letter y z t)),
+                (first_return_within s surface v some k.from_left k.to_right first.1 (k.within letter y z t)),
           )
       go letter y z t (twice a b u taken out taken2 e) =
           let first = g.returns a y u taken in
           let second = g.returns b u z taken2 in (
             first.0 + second.0,
             subst (IsFirstReturn s v after.base (add after.base after.total) (first.0 + second.0) y z) (sym e)
-            (first_return_later s surface v some k.from_left k.to_right first.1 out
-            (first_return_within s surface v some k.from_left k.to_right second.1 (k.within letter y z t))),
+                (first_return_later s surface v some k.from_left k.to_right first.1 out
+                (first_return_within s surface v some k.from_left k.to_right second.1 (k.within letter y z t))),
           )
 
   kept : {components : List Component} {outcome : Outcome} → AllByRecursion (IsLawful s.d) components → Makes s.d components outcome → AllGiveReturns s v components
@@ -61,11 +60,11 @@ module _ (s : GluedPolygons) (v : PlaneVector) (surface : IsTranslationSurface s
       )
   kept lawful (closes c rest) g = g.1
   kept lawful (wins_above c after rest won) g =
-      let L = surface_order s surface in (returns_of_taken g.0 (taken_of_shortened L lawful.0 (shortened_by_top L lawful.0 won)), g.1)
+      let L = surface_order s surface in (returns_of_taken g.0 (taken_of_shortened L lawful.0 (shortened_by_top L lawful.0 (won_above_lawful L lawful.0 won) won) (won_above_lawful L lawful.0 won)), g.1)
   kept lawful (wins_below c after rest won) g =
-      let L = surface_order s surface in (returns_of_taken g.0 (taken_of_shortened L lawful.0 (shortened_by_bottom L lawful.0 won)), g.1)
+      let L = surface_order s surface in (returns_of_taken g.0 (taken_of_shortened L lawful.0 (shortened_by_bottom L lawful.0 (won_below_lawful L lawful.0 won) won) (won_below_lawful L lawful.0 won)), g.1)
   kept lawful (merges c after rest found merged) g =
-      let L = surface_order s surface in (returns_of_taken g.0 (taken_of_shortened L lawful.0 (shortened_by_merge L lawful.0 merged)), g.1)
+      let L = surface_order s surface in (returns_of_taken g.0 (taken_of_shortened L lawful.0 (shortened_by_merge L lawful.0 (merged_lawful L lawful.0 merged) merged) (merged_lawful L lawful.0 merged)), g.1)
 
   -- the exchange of a surface and a direction gives first returns: each is one crossing
   pub exchange_gives_returns : {d : ℕ} {c : Component} → s.d ≡ d → IsExchange s v c → IsLawful d c → GivesReturns s v c

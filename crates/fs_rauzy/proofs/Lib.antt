@@ -6,6 +6,7 @@ pub mod LastLetters
 pub mod LawfulEvents
 pub mod LeftEnds
 pub mod LetterChanges
+pub mod NameRows
 pub mod NamedLetters
 pub mod OutcomeUnique
 pub mod RowEnds

@@ -1,5 +1,5 @@
 -- A letter that takes the place of the one of its name: names, lengths by names, and members.
-use Rattle.std.proofs.Common.{◌≡◌, ◌≢◌, ◌⊎◌, ℕ, ◌==◌, if◌then◌else◌, Bool, List, [], ◌∷◌, refl, sym, ap, ◌∙◌, subst, inl, inr}
+use Rattle.std.proofs.Common.{◌≡◌, ◌≢◌, ◌⊎◌, ℕ, ◌==◌, if◌then◌else◌, List, [], ◌∷◌, refl, sym, ap, ◌∙◌, subst, inl, inr}
 use Rattle.std.proofs.lemmas.Bool.Decides.{eqb_tells}
 use Rattle.fs_lists.specs.Members.{IsIn, IsDistinct}
 use Rattle.fs_lists.proofs.Members.{in_map, in_map_cases}
@@ -7,13 +7,14 @@ use Rattle.fs_quadratic.specs.Ring.{Quadratic, sub}
 use Rattle.fs_gluing.specs.Exchanges.{Letter, names_of, length_of}
 use Rattle.fs_iet.proofs.LetterRows.{length_of_letter}
 use Rattle.fs_rauzy.specs.Events.{with_letter, won_over}
+use Rattle.fs_rauzy.proofs.LetterChanges.{with_letter-names}
 
 -- ---- the choice by a name
 
-pub choose_same : {X : Type 0} (a b : ℕ) (x y : X) → a ≡ b → (if a == b then x else y) ≡ x
+choose_same : {X : Type 0} (a b : ℕ) (x y : X) → a ≡ b → (if a == b then x else y) ≡ x
 choose_same a b x y e = elim (eqb_tells a b) [ inl h ↦ ap (λ t. if t then x else y) h.0 | inr h ↦ absurd (h.1 e) ]
 
-pub choose_other : {X : Type 0} (a b : ℕ) (x y : X) → a ≢ b → (if a == b then x else y) ≡ y
+choose_other : {X : Type 0} (a b : ℕ) (x y : X) → a ≢ b → (if a == b then x else y) ≡ y
 choose_other a b x y n = elim (eqb_tells a b) [ inl h ↦ absurd (n h.1) | inr h ↦ ap (λ t. if t then x else y) h.0 ]
 
 pub same_name_or_not : (a b : ℕ) → (a ≡ b) ⊎ (a ≢ b)
@@ -22,29 +23,18 @@ same_name_or_not a b = elim (eqb_tells a b) [ inl h ↦ inl h.1 | inr h ↦ inr 
 -- ---- one letter in the place of that of its name
 
 module _ (new : Letter) where
-  -- the names stay
-  pub names_with : (letters : List Letter) → names_of (with_letter new letters) ≡ names_of letters
-  names_with [] = refl
-  names_with (letter ∷ letters) = λ i. name_stays i ∷ names_with letters i
-    where
-      name_stays : (if letter.name == new.name then new else letter).name ≡ letter.name
-      name_stays = elim (eqb_tells letter.name new.name) [
-        | inl h ↦ ap (λ (t : Bool). (if t then new else letter).name) h.0 ∙ sym h.1
-        | inr h ↦ ap (λ (t : Bool). (if t then new else letter).name) h.0
-      ]
-
   -- the lengths of other names stay
   pub length_of_others : (letters : List Letter) (name : ℕ) → name ≢ new.name → length_of (with_letter new letters) name ≡ length_of letters name
   length_of_others [] name n = refl
   length_of_others (letter ∷ letters) name n = elim (same_name_or_not letter.name new.name) [
     | inl e ↦
-      ap (λ (l : Letter). if l.name == name then l.length else length_of (with_letter new letters) name) (choose_same letter.name new.name new letter e)
-      ∙ choose_other new.name name new.length (length_of (with_letter new letters) name) (λ f. n (sym f))
-      ∙ length_of_others letters name n
-      ∙ sym (choose_other letter.name name letter.length (length_of letters name) (λ f. n (sym f ∙ e)))
+        ap (λ (l : Letter). if l.name == name then l.length else length_of (with_letter new letters) name) (choose_same letter.name new.name new letter e)
+        ∙ choose_other new.name name new.length (length_of (with_letter new letters) name) (λ f. n (sym f))
+        ∙ length_of_others letters name n
+        ∙ sym (choose_other letter.name name letter.length (length_of letters name) (λ f. n (sym f ∙ e)))
     | inr m ↦
-      ap (λ (l : Letter). if l.name == name then l.length else length_of (with_letter new letters) name) (choose_other letter.name new.name new letter m)
-      ∙ ap (λ (q : Quadratic). if letter.name == name then letter.length else q) (length_of_others letters name n)
+        ap (λ (l : Letter). if l.name == name then l.length else length_of (with_letter new letters) name) (choose_other letter.name new.name new letter m)
+        ∙ ap (λ (q : Quadratic). if letter.name == name then letter.length else q) (length_of_others letters name n)
   ]
 
   -- that of its name is its own
@@ -52,12 +42,12 @@ module _ (new : Letter) where
   length_of_new [] h = absurd h
   length_of_new (letter ∷ letters) h = elim (same_name_or_not letter.name new.name) [
     | inl e ↦
-      ap (λ (l : Letter). if l.name == new.name then l.length else length_of (with_letter new letters) new.name) (choose_same letter.name new.name new letter e)
-      ∙ choose_same new.name new.name new.length (length_of (with_letter new letters) new.name) refl
+        ap (λ (l : Letter). if l.name == new.name then l.length else length_of (with_letter new letters) new.name) (choose_same letter.name new.name new letter e)
+        ∙ choose_same new.name new.name new.length (length_of (with_letter new letters) new.name) refl
     | inr m ↦
-      ap (λ (l : Letter). if l.name == new.name then l.length else length_of (with_letter new letters) new.name) (choose_other letter.name new.name new letter m)
-      ∙ choose_other letter.name new.name letter.length (length_of (with_letter new letters) new.name) m
-      ∙ length_of_new letters (elim h [ inl e ↦ absurd (m (sym e)) | inr k ↦ k ])
+        ap (λ (l : Letter). if l.name == new.name then l.length else length_of (with_letter new letters) new.name) (choose_other letter.name new.name new letter m)
+        ∙ choose_other letter.name new.name letter.length (length_of (with_letter new letters) new.name) m
+        ∙ length_of_new letters (elim h [ inl e ↦ absurd (m (sym e)) | inr k ↦ k ])
   ]
 
   -- a letter is the new one, or one of the others
@@ -67,8 +57,8 @@ module _ (new : Letter) where
   in_with_cases (other ∷ letters) letter (inl h) = elim (same_name_or_not other.name new.name) [
     | inl e ↦ inl (h ∙ choose_same other.name new.name new other e)
     | inr m ↦
-      let one : letter ≡ other = h ∙ choose_other other.name new.name new other m in
-      inr (inl one, λ f. m (ap (λ (l : Letter). l.name) (sym one) ∙ f))
+        let one : letter ≡ other = h ∙ choose_other other.name new.name new other m in
+        inr (inl one, λ f. m (ap (λ (l : Letter). l.name) (sym one) ∙ f))
   ]
 
 -- ---- rows with the same letters
@@ -83,13 +73,14 @@ length_of_rearranged letters others p q to name h =
 
 -- ---- lengths after a won comparison
 
+-- two letters in the place of those of their names change no name
+pub names_after : (lost won : Letter) (letters : List Letter) → names_of (with_letter lost (with_letter won letters)) ≡ names_of letters
+names_after lost won letters = with_letter-names lost (with_letter won letters) ∙ with_letter-names won letters
+
 module _ (letters : List Letter) (distinct : IsDistinct (names_of letters)) (winner loser lost : Letter) (winner_there : IsIn winner letters) (loser_there : IsIn loser letters)
     (differ : winner.name ≢ loser.name) (named : lost.name ≡ loser.name) (as_long : lost.length ≡ loser.length) where
   abbrev pub after_won : List Letter
   after_won = with_letter lost (with_letter (won_over winner loser) letters)
-
-  pub names_after : names_of after_won ≡ names_of letters
-  names_after = names_with lost (with_letter (won_over winner loser) letters) ∙ names_with (won_over winner loser) letters
 
   -- the winner is shorter by the loser
   pub length_of_winner : length_of after_won winner.name ≡ sub winner.length loser.length
@@ -101,7 +92,7 @@ module _ (letters : List Letter) (distinct : IsDistinct (names_of letters)) (win
   length_of_loser =
       ap (length_of after_won) (sym named)
       ∙ length_of_new lost (with_letter (won_over winner loser) letters)
-      (subst (IsIn lost.name) (sym (names_with (won_over winner loser) letters))
+      (subst (IsIn lost.name) (sym (with_letter-names (won_over winner loser) letters))
       (subst (λ name. IsIn name (names_of letters)) (sym named) (in_map (λ (l : Letter). l.name) loser letters loser_there)))
       ∙ as_long ∙ sym (length_of_letter letters loser distinct loser_there)
 
@@ -110,8 +101,8 @@ module _ (letters : List Letter) (distinct : IsDistinct (names_of letters)) (win
   length_of_rest name n = elim (same_name_or_not name loser.name) [
     | inl e ↦ ap (length_of after_won) e ∙ length_of_loser ∙ ap (length_of letters) (sym e)
     | inr m ↦
-      length_of_others lost (with_letter (won_over winner loser) letters) name (λ e. m (e ∙ named))
-      ∙ length_of_others (won_over winner loser) letters name n
+        length_of_others lost (with_letter (won_over winner loser) letters) name (λ e. m (e ∙ named))
+        ∙ length_of_others (won_over winner loser) letters name n
   ]
 
   -- the letters are the loser, the winner and the others

@@ -1,5 +1,5 @@
 -- What a component takes after an event: what one letter takes before, or two letters one after the other; after a won comparison or a merge.
-use Rattle.std.proofs.Common.{◌≡◌, ◌⊎◌, ℕ, [], ◌∷◌, refl, sym, ap, ◌∙◌, subst, inl, inr}
+use Rattle.std.proofs.Common.{◌≡◌, ℕ, [], ◌∷◌, refl, sym, ◌∙◌, subst, inl, inr}
 use Rattle.fs_lists.specs.Members.{IsIn}
 use Rattle.fs_ring.specs.Operations.{Operations, sub as minus}
 use Rattle.fs_ring.specs.OrderedRing.{IsOrderedRing, IsLess, IsAtMost}
@@ -10,9 +10,10 @@ use Rattle.fs_quadratic.specs.Ring.{Quadratic, quadratic, IsPositive, add, sub}
 use Rattle.fs_plane.specs.Vector.{vector_add}
 use Rattle.fs_gluing.specs.Exchanges.{Letter, Component, IsLawful, top_left, bottom_left, Takes}
 use Rattle.fs_iet.specs.FirstReturns.{IsBetween}
-use Rattle.fs_iet.proofs.ShiftedIntervals.{moved, moved_from_left, moved_before_right}
-use Rattle.fs_iet.proofs.TakenPositions.{takes_within, takes_left_end}
-use Rattle.fs_rauzy.proofs.LeftEnds.{Stays, IsCut, Joins, IsShortened, sub_at_most, x_there, top_ends, bottom_ends, ends_before_y}
+use Rattle.fs_iet.proofs.ShiftedIntervals.{moved, moved_before_right}
+use Rattle.fs_iet.proofs.TakenPositions.{takes_within}
+use Rattle.fs_rauzy.proofs.LeftEnds.{Joins, IsShortened, sub_at_most, top_ends, bottom_ends}
+use Rattle.fs_rauzy.proofs.EventRows.{last_in}
 
 -- ---- positions
 
@@ -93,83 +94,6 @@ module _ {d : ℕ} (L : IsOrderedRing (quadratic d) (IsPositive d)) {c after : C
       (λ i. add (e.base i) (e.sum i))
       ∙ identity L.ring (c.base ∷ c.total ∷ e.cut ∷ []) (λ b t k. b ⊕ (t ⊖ k) ≐ (b ⊕ t) ⊖ k) refl
 
-  -- what ends where the last letter of the bottom row begins, or before, ends within what is left
-  ends_within : (p : Quadratic) → IsAtMost (quadratic d) (IsPositive d) p (bottom_left c e.y.name) → IsAtMost (quadratic d) (IsPositive d) p (add after.base after.total)
-  ends_within p h =
-      order.at_most_trans L p (bottom_left c e.y.name) (add after.base after.total) h
-      (λ k. e.below (signs.positive_of_eq L
-      (derived L.ring (e.y.length ∷ e.cut ∷ bottom_left c e.y.name ∷ add after.base after.total ∷ add c.base c.total ∷ [])
-      (λ l k b n r. k ⊖ l ≐ b ⊖ n from (E.neg (numeral 1), b ⊕ l ≐ r) ∷ (numeral 1, n ≐ r ⊖ k) ∷ []) refl (bottom_ends L lawful e.last, (row_end, tt))) k))
-
-  -- a position from b on, before b + l, is among what is left where the interval is
-  left_between : (b l z : Quadratic) → IsAtMost (quadratic d) (IsPositive d) c.base b → IsAtMost (quadratic d) (IsPositive d) (add b l) (add after.base after.total)
-      → IsAtMost (quadratic d) (IsPositive d) b z → IsLess (quadratic d) (IsPositive d) z (add b l) → IsBetween d after.base (add after.base after.total) z
-  left_between b l z h k m n = record {
-    from_left = subst (λ a. IsAtMost (quadratic d) (IsPositive d) a z) (sym e.base) (order.at_most_trans L c.base b z h m);
-    before_right = order.less_of_less_at_most L z (add b l) (add after.base after.total) n k;
-  }
-
-  -- a letter takes positions between its ends in the bottom row
-  image_between : {letter : Letter} {p z : Quadratic} → Takes d after letter p z
-      → IsAtMost (quadratic d) (IsPositive d) (bottom_left after letter.name) z × IsLess (quadratic d) (IsPositive d) z (add (bottom_left after letter.name) letter.length)
-  image_between {letter} {p} {z} t =
-      let top = top_left after letter.name in
-      let bottom = bottom_left after letter.name in (
-        subst (IsAtMost (quadratic d) (IsPositive d) bottom) (sym t.beyond) (moved_from_left L top bottom p t.from_left),
-        subst (λ w. IsLess (quadratic d) (IsPositive d) w (add bottom letter.length)) (sym t.beyond) (moved_before_right L top bottom letter.length p t.before_right),
-      )
-
-  -- no letter begins before the component does
-  begins_within : (old : Letter) → IsIn old c.top → IsAtMost (quadratic d) (IsPositive d) c.base (bottom_left c old.name)
-  begins_within old h = (takes_within L lawful (takes_left_end L lawful old h)).1.from_left
-
-  cut_shorter : {letter : Letter} → IsCut d c after e.y letter e.cut → IsAtMost (quadratic d) (IsPositive d) letter.length e.y.length
-  cut_shorter {letter} k = subst (λ l. IsAtMost (quadratic d) (IsPositive d) l e.y.length) (sym k.length) (sub_at_most L e.y.length e.cut e.long)
-
-  -- ---- what is taken is within
-
-  stays_within : {letter : Letter} {p z : Quadratic} (old : Letter) → Stays d c after e.y letter old → Takes d after letter p z → IsBetween d after.base (add after.base after.total) z
-  stays_within {letter} {p} {z} old k t =
-      let b = bottom_left after letter.name in
-      let image = image_between t in
-      left_between b letter.length z
-      (subst (IsAtMost (quadratic d) (IsPositive d) c.base) (sym k.bottom) (begins_within old k.there))
-      (ends_within (add b letter.length)
-      (subst (λ a. IsAtMost (quadratic d) (IsPositive d) (add a letter.length) (bottom_left c e.y.name)) (sym k.bottom)
-      (order.at_most_trans L (add (bottom_left c old.name) letter.length) (add (bottom_left c old.name) old.length) (bottom_left c e.y.name)
-      (order.add_at_most_add_left L (bottom_left c old.name) letter.length old.length k.shorter) (ends_before_y L lawful e.last old k.there k.other))))
-      image.0 image.1
-
-  cut_within : {letter : Letter} {p z : Quadratic} → IsCut d c after e.y letter e.cut → Takes d after letter p z → IsBetween d after.base (add after.base after.total) z
-  cut_within {letter} {p} {z} k t =
-      let b = bottom_left after letter.name in
-      let image = image_between t in
-      left_between b letter.length z
-      (subst (IsAtMost (quadratic d) (IsPositive d) c.base) (sym k.bottom) (begins_within e.y e.last.there))
-      (order.at_most_of_eq L (add b letter.length) (add after.base after.total)
-      ((λ i. add (k.bottom i) (k.length i))
-      ∙ derived L.ring (bottom_left c e.y.name ∷ e.y.length ∷ e.cut ∷ add c.base c.total ∷ []) (λ b l k r. b ⊕ (l ⊖ k) ≐ r ⊖ k from (numeral 1, b ⊕ l ≐ r) ∷ []) refl (bottom_ends L lawful e.last, tt)
-      ∙ sym row_end))
-      image.0 image.1
-
-  joins_within : {letter : Letter} {p z : Quadratic} → Joins d c after e.x e.y letter e.cut → Takes d after letter p z → IsBetween d after.base (add after.base after.total) z
-  joins_within {letter} {p} {z} k t =
-      let b = bottom_left after letter.name in
-      let start = bottom_left c e.x.name in
-      let there = x_there L lawful e.last in
-      let image = image_between t in
-      left_between b letter.length z
-      (subst (IsAtMost (quadratic d) (IsPositive d) c.base) (sym k.bottom)
-      (order.at_most_trans L c.base start (add start (sub e.x.length e.cut)) (begins_within e.x there)
-      (λ less. e.above (signs.positive_by L (start ∷ e.x.length ∷ e.cut ∷ []) (λ s l k. k ⊖ l ≐ s ⊖ (s ⊕ (l ⊖ k))) refl less))))
-      (ends_within (add b letter.length)
-      (subst (λ q. IsAtMost (quadratic d) (IsPositive d) q (bottom_left c e.y.name))
-      (sym ((λ i. add (k.bottom i) (k.length i)) ∙ identity L.ring (start ∷ e.x.length ∷ e.cut ∷ []) (λ s l k. (s ⊕ (l ⊖ k)) ⊕ k ≐ s ⊕ l) refl))
-      (ends_before_y L lawful e.last e.x there e.last.differ)))
-      image.0 image.1
-
-  -- ---- what is taken
-
   taken_twice : {letter : Letter} {p z : Quadratic} → Joins d c after e.x e.y letter e.cut → Takes d after letter p z → TakenAs d c after letter p z
   taken_twice {letter} {p} {z} k t =
       let ty = top_left c e.y.name in
@@ -182,8 +106,8 @@ module _ {d : ℕ} (L : IsOrderedRing (quadratic d) (IsPositive d)) {c after : C
       let bottom = bottom_ends L lawful e.last in
       let begins : IsAtMost (quadratic d) (IsPositive d) (add ty (sub e.y.length e.cut)) p = subst (λ a. IsAtMost (quadratic d) (IsPositive d) a p) k.top t.from_left in
       let ends : IsLess (quadratic d) (IsPositive d) p (add (add ty (sub e.y.length e.cut)) e.cut) =
-          subst (λ l. IsLess (quadratic d) (IsPositive d) p (add (add ty (sub e.y.length e.cut)) l)) k.length
-          (subst (λ a. IsLess (quadratic d) (IsPositive d) p (add a letter.length)) k.top t.before_right) in
+      subst (λ l. IsLess (quadratic d) (IsPositive d) p (add (add ty (sub e.y.length e.cut)) l)) k.length
+      (subst (λ a. IsLess (quadratic d) (IsPositive d) p (add a letter.length)) k.top t.before_right) in
       twice e.y e.x u
       (record {
         there = e.last.there;
@@ -194,7 +118,7 @@ module _ {d : ℕ} (L : IsOrderedRing (quadratic d) (IsPositive d)) {c after : C
       (λ in_rest. outside L ty by e.y.length tx bx e.x.length r e.cut p top bottom e.below e.above begins ends
       (subst (IsLess (quadratic d) (IsPositive d) u) row_end in_rest.before_right))
       (record {
-        there = x_there L lawful e.last;
+        there = last_in e.last;
         from_left = second_from L ty by e.y.length tx bx e.x.length r e.cut p top bottom e.below e.above begins ends;
         before_right = second_before L ty by e.y.length tx bx e.x.length r e.cut p top bottom e.below e.above begins ends;
         beyond =
@@ -203,18 +127,14 @@ module _ {d : ℕ} (L : IsOrderedRing (quadratic d) (IsPositive d)) {c after : C
       })
       k.back
 
-  -- after a won comparison or a merge a component takes what it took before, once or twice
-  pub taken_of_shortened : IsTakenFrom d c after
-  taken_of_shortened = record {
+  -- a lawful component that is shortened takes what it took before, once or twice
+  pub taken_of_shortened : IsLawful d after → IsTakenFrom d c after
+  taken_of_shortened lawful_after = record {
     from_left = order.at_most_of_eq L c.base after.base (sym e.base);
-    to_right =
-        subst (λ q. IsAtMost (quadratic d) (IsPositive d) q (add c.base c.total)) (sym row_end) (sub_at_most L (add c.base c.total) e.cut e.long);
-    within = λ letter p z t. elim (e.letters letter t.there) [
-      | inl k ↦ stays_within k.0 k.1 t
-      | inr k ↦ elim k [ inl m ↦ cut_within m t | inr m ↦ joins_within m t ]
-    ];
+    to_right = subst (λ q. IsAtMost (quadratic d) (IsPositive d) q (add c.base c.total)) (sym row_end) (sub_at_most L (add c.base c.total) e.cut e.long);
+    within = λ letter p z t. (takes_within L lawful_after t).1;
     taken = λ letter p z t. elim (e.letters letter t.there) [
       | inl k ↦ once k.0 (taken_by_old L k.0 k.1.there k.1.top k.1.bottom k.1.shorter t) k.1.back
-      | inr k ↦ elim k [ inl m ↦ once e.y (taken_by_old L e.y e.last.there m.top m.bottom (cut_shorter m) t) m.back | inr m ↦ taken_twice m t ]
+      | inr k ↦ taken_twice k t
     ];
   }
