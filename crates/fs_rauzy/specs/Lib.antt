@@ -3,6 +3,7 @@ pub mod Cylinders
 pub mod Events
 pub mod FirstReturns
 pub mod Loops
+pub mod Measures
 pub mod Rooms
 pub mod Rule
 pub mod Runs
@@ -10,3 +11,4 @@ pub mod SplitsInPlace
 pub mod States
 pub mod StatesInPlace
 pub mod Steps
+pub mod Towers
