@@ -60,11 +60,17 @@ module _ (s : GluedPolygons) (v : PlaneVector) (surface : IsTranslationSurface s
       )
   kept lawful (closes c rest) g = g.1
   kept lawful (wins_above c after rest won) g =
-      let L = surface_order s surface in (returns_of_taken g.0 (taken_of_shortened L lawful.0 (shortened_by_top L lawful.0 (won_above_lawful L lawful.0 won) won) (won_above_lawful L lawful.0 won)), g.1)
+      let L = surface_order s surface in
+      let lawful_after = won_above_lawful L lawful.0 won in
+      (returns_of_taken g.0 (taken_of_shortened L lawful.0 (shortened_by_top L lawful.0 lawful_after won) lawful_after), g.1)
   kept lawful (wins_below c after rest won) g =
-      let L = surface_order s surface in (returns_of_taken g.0 (taken_of_shortened L lawful.0 (shortened_by_bottom L lawful.0 (won_below_lawful L lawful.0 won) won) (won_below_lawful L lawful.0 won)), g.1)
+      let L = surface_order s surface in
+      let lawful_after = won_below_lawful L lawful.0 won in
+      (returns_of_taken g.0 (taken_of_shortened L lawful.0 (shortened_by_bottom L lawful.0 lawful_after won) lawful_after), g.1)
   kept lawful (merges c after rest found merged) g =
-      let L = surface_order s surface in (returns_of_taken g.0 (taken_of_shortened L lawful.0 (shortened_by_merge L lawful.0 (merged_lawful L lawful.0 merged) merged) (merged_lawful L lawful.0 merged)), g.1)
+      let L = surface_order s surface in
+      let lawful_after = merged_lawful L lawful.0 merged in
+      (returns_of_taken g.0 (taken_of_shortened L lawful.0 (shortened_by_merge L lawful.0 lawful_after merged) lawful_after), g.1)
 
   -- the exchange of a surface and a direction gives first returns: each is one crossing
   pub exchange_gives_returns : {d : ℕ} {c : Component} → s.d ≡ d → IsExchange s v c → IsLawful d c → GivesReturns s v c

@@ -60,12 +60,15 @@ TilesIn d c row names = Tiles (quadratic d) (left_in c row) (length_of c.top) c.
 module _ {d : ℕ} (L : IsOrderedRing (quadratic d) (IsPositive d)) where
   -- ---- sums
 
+  -- what was taken away is added again
   pub sub_add : (a b : Quadratic) → add (sub a b) b ≡ a
   sub_add a b = identity L.ring (a ∷ b ∷ []) (λ a b. (a ⊖ b) ⊕ b ≐ a) refl
 
+  -- the difference of equal lengths adds nothing
   pub add_none : (t a b : Quadratic) → a ≡ b → t ≡ add t (sub a b)
   add_none t a b e = identity L.ring (t ∷ a ∷ []) (λ t a. t ≐ t ⊕ (a ⊖ a)) refl ∙ ap (λ u. add t (sub a u)) e
 
+  -- a difference by a number above 0 isn't greater
   pub sub_at_most : (a b : Quadratic) → IsPositive d b → IsAtMost (quadratic d) (IsPositive d) (sub a b) a
   sub_at_most a b h = order.at_most_of_less L (sub a b) a (signs.positive_by L (a ∷ b ∷ []) (λ a b. a ⊖ (a ⊖ b) ≐ b) refl h)
 
@@ -78,12 +81,15 @@ module _ {d : ℕ} (L : IsOrderedRing (quadratic d) (IsPositive d)) where
   -- ---- the last letters of both rows
 
   module _ {c : Component} (lawful : IsLawful d c) {x y : Letter} (last : AreLast c x y) where
+    -- the names of the top row, the last one apart
     pub names_top : names_of c.top ≡ names_of last.before_top ++ x.name ∷ []
     names_top = ap names_of last.top ∙ map-append (λ (l : Letter). l.name) last.before_top (x ∷ [])
 
+    -- those before it are others
     pub not_last_above : (name : ℕ) → IsIn name (names_of last.before_top) → name ≢ x.name
     not_last_above name h e = distinct_across (names_of last.before_top) (x.name ∷ []) name (subst (λ (names : List ℕ). IsDistinct names) names_top lawful.names) h (inl e)
 
+    -- their intervals
     pub top_row : TilesIn d c (names_of c.top) (names_of last.before_top ++ x.name ∷ [])
     top_row = subst (TilesIn d c (names_of c.top)) names_top (top_names_tiles lawful)
 

@@ -17,6 +17,7 @@ choose_same a b x y e = elim (eqb_tells a b) [ inl h ↦ ap (λ t. if t then x e
 choose_other : {X : Type 0} (a b : ℕ) (x y : X) → a ≢ b → (if a == b then x else y) ≡ y
 choose_other a b x y n = elim (eqb_tells a b) [ inl h ↦ absurd (n h.1) | inr h ↦ ap (λ t. if t then x else y) h.0 ]
 
+-- names are one, or differ
 pub same_name_or_not : (a b : ℕ) → (a ≡ b) ⊎ (a ≢ b)
 same_name_or_not a b = elim (eqb_tells a b) [ inl h ↦ inl h.1 | inr h ↦ inr h.1 ]
 

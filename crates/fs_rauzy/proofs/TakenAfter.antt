@@ -12,8 +12,8 @@ use Rattle.fs_gluing.specs.Exchanges.{Letter, Component, IsLawful, top_left, bot
 use Rattle.fs_iet.specs.FirstReturns.{IsBetween}
 use Rattle.fs_iet.proofs.ShiftedIntervals.{moved, moved_before_right}
 use Rattle.fs_iet.proofs.TakenPositions.{takes_within}
-use Rattle.fs_rauzy.proofs.LeftEnds.{Joins, IsShortened, sub_at_most, top_ends, bottom_ends}
 use Rattle.fs_rauzy.proofs.EventRows.{last_in}
+use Rattle.fs_rauzy.proofs.LeftEnds.{Joins, IsShortened, sub_at_most, top_ends, bottom_ends}
 
 -- ---- positions
 
@@ -25,32 +25,32 @@ module _ {A : Type 0} {R : Operations A} {P : A → Type 0} (L : IsOrderedRing R
   abbrev ◌<◌ : A → A → Type 0
   a < b = IsLess R P a b
 
-  -- the end of an interval from t on, of length l, that is taken to the end of the bottom row, and from there on
+  -- an interval of length l is taken from t to b, where the bottom row ends with it, and one of length m from s, where the top row ends with it, to c: the end of the first one, as long as cut, is taken by both, one after the other
   module _ (t b l s c m r cut y : A) (top : R.add s m ≡ r) (bottom : R.add b l ≡ r) (below : cut ≤ l) (above : cut ≤ m)
       (begins : R.add t (minus R l cut) ≤ y) (ends : y < R.add (R.add t (minus R l cut)) cut) where
-    pub first_from : t ≤ y
+    first_from : t ≤ y
     first_from = order.at_most_trans L t (R.add t (minus R l cut)) y (λ k. below (signs.positive_by L (t ∷ l ∷ cut ∷ []) (λ t l c. c ⊖ l ≐ t ⊖ (t ⊕ (l ⊖ c))) refl k)) begins
 
-    pub first_before : y < R.add t l
+    first_before : y < R.add t l
     first_before = signs.positive_by L (t ∷ l ∷ cut ∷ y ∷ []) (λ t l c y. (t ⊕ l) ⊖ y ≐ ((t ⊕ (l ⊖ c)) ⊕ c) ⊖ y) refl ends
 
     -- it is outside of what is left
-    pub outside : minus R r cut ≤ moved R t b y
+    outside : minus R r cut ≤ moved R t b y
     outside k =
         begins (signs.positive_of_eq L
         (derived L.ring (t ∷ b ∷ l ∷ r ∷ cut ∷ y ∷ []) (λ t b l r c y. (t ⊕ (l ⊖ c)) ⊖ y ≐ (r ⊖ c) ⊖ ((y ⊖ t) ⊕ b) from (numeral 1, b ⊕ l ≐ r) ∷ []) refl (bottom, tt)) k)
 
-    pub second_from : s ≤ moved R t b y
+    second_from : s ≤ moved R t b y
     second_from =
         order.at_most_trans L s (minus R r cut) (moved R t b y)
         (λ k. above (signs.positive_of_eq L (derived L.ring (s ∷ m ∷ r ∷ cut ∷ []) (λ s m r c. c ⊖ m ≐ s ⊖ (r ⊖ c) from (E.neg (numeral 1), s ⊕ m ≐ r) ∷ []) refl (top, tt)) k))
         outside
 
-    pub second_before : moved R t b y < R.add s m
+    second_before : moved R t b y < R.add s m
     second_before =
         subst (λ u. moved R t b y < u) (bottom ∙ sym top) (moved_before_right L t b l y first_before)
 
-    pub both_moved : moved R s c (moved R t b y) ≡ moved R (R.add t (minus R l cut)) (R.add c (minus R m cut)) y
+    both_moved : moved R s c (moved R t b y) ≡ moved R (R.add t (minus R l cut)) (R.add c (minus R m cut)) y
     both_moved =
         derived L.ring (t ∷ b ∷ l ∷ s ∷ c ∷ m ∷ r ∷ cut ∷ y ∷ [])
         (λ t b l s c m r k y. (((y ⊖ t) ⊕ b) ⊖ s) ⊕ c ≐ (y ⊖ (t ⊕ (l ⊖ k))) ⊕ (c ⊕ (m ⊖ k)) from (numeral 1, b ⊕ l ≐ r) ∷ (E.neg (numeral 1), s ⊕ m ≐ r) ∷ []) refl (bottom, (top, tt))
