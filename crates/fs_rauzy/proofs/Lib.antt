@@ -1,2 +1,5 @@
+mod ListsSoFar
+mod Places
+mod PowersOfTwo
 mod Prefixes
 mod RowMoves
