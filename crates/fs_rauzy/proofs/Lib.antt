@@ -1,0 +1,5 @@
+mod AlikeComponents
+mod ChosenEvents
+mod ExchangeInPlace
+pub mod OpenedRows
+mod Pending
