@@ -43,7 +43,7 @@ module _ (x : ExchangeValue) (is : IsExchangeValue x) where
     laid = let some = is.lawful.some_letter in (omega (arith, length-range_with_len 0 (length x.component.top)), refl);
   }
 
-  whole_state : IsState (record { d = x.d; open = x.component ∷ [] })
+  whole_state : IsState (record { d = x.d; components = x.component ∷ [] })
   whole_state = record {
     lawful = (is.lawful, tt);
     apart = subst IsDistinct (sym (append-nil (names_of x.component.top))) is.lawful.names;
@@ -62,5 +62,5 @@ module _ (x : ExchangeValue) (is : IsExchangeValue x) where
     begun_in_place = along IsInPlace same_letters same_top same_bottom same_extents whole_in_place
 
     -- and the laws of a state hold
-    pub begun_state : IsState (record { d = x.d; open = opened letters top bottom extents })
-    begun_state = subst (λ (open : List Component). IsState (record { d = x.d; open = open })) (sym begun_open) whole_state
+    pub begun_state : IsState (record { d = x.d; components = opened letters top bottom extents })
+    begun_state = subst (λ (components : List Component). IsState (record { d = x.d; components = components })) (sym begun_open) whole_state

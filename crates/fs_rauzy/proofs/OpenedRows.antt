@@ -143,9 +143,9 @@ descending_rest : (d : ℕ) (c : Component) (rest : List Component) → AreDesce
 descending_rest d c [] h = tt
 descending_rest d c (e ∷ rest) h = h.1
 
-module _ {d : ℕ} {c : Component} {rest : List Component} (h : IsState (record { d = d; open = c ∷ rest })) where
+module _ {d : ℕ} {c : Component} {rest : List Component} (h : IsState (record { d = d; components = c ∷ rest })) where
   -- where the current component closes, the laws hold of the others
-  pub closed_state : IsState (record { d = d; open = rest })
+  pub closed_state : IsState (record { d = d; components = rest })
   closed_state = record {
     lawful = h.lawful.1;
     apart = distinct_suffix (names_of c.top) (open_names rest) h.apart;

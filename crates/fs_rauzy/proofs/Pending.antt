@@ -13,17 +13,17 @@ use Rattle.fs_rauzy.specs.Events.{Makes}
 use Rattle.fs_rauzy.specs.Rule.{HasNoSplit, IsMade, StopsAt}
 use Rattle.fs_rauzy.specs.Steps.{CanCompare}
 
-module _ {d : ℕ} (L : IsOrderedRing (quadratic d) (IsPositive d)) {open : List Component} (lawful : AllByRecursion (IsLawful d) open) where
-  pub made_unique : {a b : Outcome} → IsMade d open a → IsMade d open b → a ≡ b
+module _ {d : ℕ} (L : IsOrderedRing (quadratic d) (IsPositive d)) {components : List Component} (lawful : AllByRecursion (IsLawful d) components) where
+  pub made_unique : {a b : Outcome} → IsMade d components a → IsMade d components b → a ≡ b
   made_unique {a} {b} h k = ?
 
-  pub stops_unique : {a b : Place} → StopsAt d open a → StopsAt d open b → a ≡ b
+  pub stops_unique : {a b : Place} → StopsAt d components a → StopsAt d components b → a ≡ b
   stops_unique {a} {b} h k = ?
 
-  pub not_made_and_stopped : {a : Outcome} {stop : Place} → IsMade d open a → StopsAt d open stop → ⊥
+  pub not_made_and_stopped : {a : Outcome} {stop : Place} → IsMade d components a → StopsAt d components stop → ⊥
   not_made_and_stopped {a} {stop} h k = ?
 
-  pub keeps_returns : {outcome : Outcome} → Makes d open outcome → KeepsReturns d open outcome.open
+  pub keeps_returns : {outcome : Outcome} → Makes d components outcome → KeepsReturns d components outcome.components
   keeps_returns {outcome} h = ?
 
 pub can_compare : (d : ℕ) (c : Component) → IsLawful d c → HasNoSplit c → 1 < length c.top → CanCompare c

@@ -151,16 +151,16 @@ pub record IsSplit (c : Component) (k : ℕ) (left right : Component) (found : O
 pub record Outcome : Type 0 where
   pub event : Event
   pub length : Quadratic
-  pub open : List Component
+  pub components : List Component
 
 -- the events of the current component, the first of the open ones
 pub data Makes (d : ℕ) : List Component → Outcome → Type 0 where
   splits : (c left right : Component) (rest : List Component) (k : ℕ) (found : Option Found) → IsSplit c k left right found
-      → Makes d (c ∷ rest) (record { event = Split k found; length = ring.zero; open = right ∷ (left ∷ rest) })
-  closes : (c : Component) (rest : List Component) → Makes d (c ∷ rest) (record { event = Closed; length = ring.zero; open = rest })
+      → Makes d (c ∷ rest) (record { event = Split k found; length = ring.zero; components = right ∷ (left ∷ rest) })
+  closes : (c : Component) (rest : List Component) → Makes d (c ∷ rest) (record { event = Closed; length = ring.zero; components = rest })
   wins_above : (c after : Component) (rest : List Component) (won : IsWonByTop d c after)
-      → Makes d (c ∷ rest) (record { event = Won true; length = sub won.x.length won.y.length; open = after ∷ rest })
+      → Makes d (c ∷ rest) (record { event = Won true; length = sub won.x.length won.y.length; components = after ∷ rest })
   wins_below : (c after : Component) (rest : List Component) (won : IsWonByBottom d c after)
-      → Makes d (c ∷ rest) (record { event = Won false; length = sub won.y.length won.x.length; open = after ∷ rest })
+      → Makes d (c ∷ rest) (record { event = Won false; length = sub won.y.length won.x.length; components = after ∷ rest })
   merges : (c after : Component) (rest : List Component) (found : Option Found) (merged : IsMerged c after found)
-      → Makes d (c ∷ rest) (record { event = Merged found; length = merged.y.length; open = after ∷ rest })
+      → Makes d (c ∷ rest) (record { event = Merged found; length = merged.y.length; components = after ∷ rest })

@@ -18,7 +18,7 @@ module _ (s : GluedPolygons) (v : PlaneVector) where
 
   -- each component does so
   abbrev pub AllGiveReturns : List Component → Type 0
-  AllGiveReturns open = AllByRecursion GivesReturns open
+  AllGiveReturns components = AllByRecursion GivesReturns components
 
 -- for every surface and direction: where the components before give first returns, so do those after
 abbrev pub KeepsReturns : ℕ → List Component → List Component → Type 0

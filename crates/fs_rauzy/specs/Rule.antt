@@ -27,9 +27,9 @@ FollowsRule (c ∷ rest) (Won top) = HasNoSplit c
 FollowsRule (c ∷ rest) (Merged found) = HasNoSplit c
 
 -- the event that comes next, whether or not its numbers overflow
-pub record IsNext (d : ℕ) (open : List Component) (outcome : Outcome) : Type 0 where
-  pub made : Makes d open outcome
-  pub by_rule : FollowsRule open outcome.event
+pub record IsNext (d : ℕ) (components : List Component) (outcome : Outcome) : Type 0 where
+  pub made : Makes d components outcome
+  pub by_rule : FollowsRule components outcome.event
 
 -- a won comparison or a merge: a step of the induction
 abbrev pub is_step : Event → Bool
@@ -119,12 +119,12 @@ pub data Tests : List Component → Event → Result Bool Place → Type 0 where
 -- ---- steps of the rule
 
 -- the next event is made: its numbers fit
-pub record IsMade (d : ℕ) (open : List Component) (outcome : Outcome) : Type 0 where
-  pub next : IsNext d open outcome
-  pub fits : Tests open outcome.event (Ok true)
+pub record IsMade (d : ℕ) (components : List Component) (outcome : Outcome) : Type 0 where
+  pub next : IsNext d components outcome
+  pub fits : Tests components outcome.event (Ok true)
 
 -- the next event stops at this place, the first one where it overflows
-pub record StopsAt (d : ℕ) (open : List Component) (stop : Place) : Type 0 where
+pub record StopsAt (d : ℕ) (components : List Component) (stop : Place) : Type 0 where
   pub outcome : Outcome
-  pub next : IsNext d open outcome
-  pub overflows : Tests open outcome.event (Err stop)
+  pub next : IsNext d components outcome
+  pub overflows : Tests components outcome.event (Err stop)

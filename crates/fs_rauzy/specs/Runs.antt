@@ -29,7 +29,7 @@ pub record Checkpoint : Type 0 where
 
 -- a point of a run: the open components; the number of the current component's state; the checkpoint that it is compared with, if any is open; whether it was found to be alike; and the steps, the events, the closed parts (the latest first) and the found connections so far
 pub record Point : Type 0 where
-  pub open : List Component
+  pub components : List Component
   pub number : ℕ
   pub saved : Option Checkpoint
   pub looped : Bool
@@ -45,7 +45,7 @@ first_checkpoint (c ∷ rest) = Some (record { number = 0; component = c })
 
 -- where a run begins
 abbrev pub start_of : List Component → Point
-start_of open = record { open = open; number = 0; saved = first_checkpoint open; looped = false; steps = 0; events = []; parts = []; found = [] }
+start_of components = record { components = components; number = 0; saved = first_checkpoint components; looped = false; steps = 0; events = []; parts = []; found = [] }
 
 -- a number of a state that is saved: 2^j - 1
 abbrev pub IsSaved : ℕ → Type 0
@@ -64,9 +64,9 @@ part_of c kind = record { base = c.base; width = c.total; letters = map (λ lett
 -- the point after an event by which another component becomes current, or the same one with other letters: its states are numbered from 0 again
 abbrev pub begun : Point → Outcome → List Part → Point
 begun p outcome parts = record {
-  open = outcome.open;
+  components = outcome.components;
   number = 0;
-  saved = first_checkpoint outcome.open;
+  saved = first_checkpoint outcome.components;
   looped = false;
   steps = (if is_step outcome.event then p.steps + 1 else p.steps);
   events = p.events ++ (record { event = outcome.event; length = outcome.length }) ∷ [];
@@ -77,7 +77,7 @@ begun p outcome parts = record {
 -- the point after a won comparison, with the checkpoint that it has then, and whether it was alike
 abbrev pub won_on : Point → Outcome → Option Checkpoint → Bool → Point
 won_on p outcome saved looped = record {
-  open = outcome.open;
+  components = outcome.components;
   number = p.number + 1;
   saved = saved;
   looped = looped;
@@ -99,7 +99,7 @@ BeginsAnew Closed = ⊥
 -- the next event of a component that wasn't found to be alike
 pub record IsMadeAt (d : ℕ) (p : Point) (outcome : Outcome) : Type 0 where
   pub going : p.looped ≡ false
-  pub made : IsMade d p.open outcome
+  pub made : IsMade d p.components outcome
 
 -- a won comparison is made, and the component is compared with its checkpoint, with this result
 pub record ComparesAt (d : ℕ) (p : Point) (outcome : Outcome) (c : Component) (saved : Checkpoint) (result : Result Bool Place) : Type 0 where
@@ -107,17 +107,17 @@ pub record ComparesAt (d : ℕ) (p : Point) (outcome : Outcome) (c : Component) 
   pub top : Bool
   pub event : outcome.event ≡ Won top
   pub rest : List Component
-  pub open : outcome.open ≡ c ∷ rest
+  pub components : outcome.components ≡ c ∷ rest
   pub saved_before : p.saved ≡ Some saved
   pub compared : IsComparison d saved.component c result
 
 -- the run goes on from one point to the next by one event
 pub data Goes (d : ℕ) (p : Point) : Point → Type 0 where
   -- a component that was found to be alike closes as looped
-  closes_loop : (c : Component) (rest : List Component) (saved : Checkpoint) → p.looped ≡ true → p.open ≡ c ∷ rest → p.saved ≡ Some saved
-      → Goes d p (begun p (record { event = Closed; length = ring.zero; open = rest }) (part_of c (Looped saved.number p.number) ∷ p.parts))
+  closes_loop : (c : Component) (rest : List Component) (saved : Checkpoint) → p.looped ≡ true → p.components ≡ c ∷ rest → p.saved ≡ Some saved
+      → Goes d p (begun p (record { event = Closed; length = ring.zero; components = rest }) (part_of c (Looped saved.number p.number) ∷ p.parts))
   -- one of one letter closes as a cylinder
-  closes_cylinder : (outcome : Outcome) (c : Component) (rest : List Component) → IsMadeAt d p outcome → outcome.event ≡ Closed → p.open ≡ c ∷ rest
+  closes_cylinder : (outcome : Outcome) (c : Component) (rest : List Component) → IsMadeAt d p outcome → outcome.event ≡ Closed → p.components ≡ c ∷ rest
       → Goes d p (begun p outcome (part_of c Cylinder ∷ p.parts))
   -- a split or a merge
   begins_anew : (outcome : Outcome) → IsMadeAt d p outcome → BeginsAnew outcome.event → Goes d p (begun p outcome p.parts)
@@ -149,19 +149,19 @@ event_number [] = 0
 event_number (logged ∷ events) = (if is_numbered logged.event then 1 else 0) + event_number events
 
 -- how a run of at most n steps ends
-pub data EndsRun (d n : ℕ) (open : List Component) : Result Run Stop → Type 0 where
+pub data EndsRun (d n : ℕ) (components : List Component) : Result Run Stop → Type 0 where
   -- no component is open
-  all_closed : (p : Point) → Leads d (start_of open) p → p.open ≡ [] → p.steps ≤ n
-      → EndsRun d n open (Ok (record { events = p.events; parts = p.parts; found = p.found; steps = p.steps }))
+  all_closed : (p : Point) → Leads d (start_of components) p → p.components ≡ [] → p.steps ≤ n
+      → EndsRun d n components (Ok (record { events = p.events; parts = p.parts; found = p.found; steps = p.steps }))
   -- n steps are made, and the next event is a step
-  budget_spent : (p : Point) (outcome : Outcome) → Leads d (start_of open) p → p.steps ≡ n → p.looped ≡ false → IsNext d p.open outcome → is_step outcome.event ≡ true
-      → EndsRun d n open (Err (Undecided n))
+  budget_spent : (p : Point) (outcome : Outcome) → Leads d (start_of components) p → p.steps ≡ n → p.looped ≡ false → IsNext d p.components outcome → is_step outcome.event ≡ true
+      → EndsRun d n components (Err (Undecided n))
   -- the next event overflows, and isn't a step beyond the budget
-  event_stops : (p : Point) (stop : Place) → Leads d (start_of open) p → p.steps ≤ n → p.looped ≡ false → (stopped : StopsAt d p.open stop)
-      → (is_step stopped.outcome.event ≡ true → p.steps < n) → EndsRun d n open (Err (Overflow (sites.Event (event_number p.events) stop.0)))
+  event_stops : (p : Point) (stop : Place) → Leads d (start_of components) p → p.steps ≤ n → p.looped ≡ false → (stopped : StopsAt d p.components stop)
+      → (is_step stopped.outcome.event ≡ true → p.steps < n) → EndsRun d n components (Err (Overflow (sites.Event (event_number p.events) stop.0)))
   -- the comparison after a won one overflows: it is part of that event
-  comparison_stops : (p : Point) (outcome : Outcome) (c : Component) (saved : Checkpoint) (stop : Place) → Leads d (start_of open) p → p.steps < n
-      → ComparesAt d p outcome c saved (Err stop) → EndsRun d n open (Err (Overflow (sites.Event (event_number p.events) stop.0)))
+  comparison_stops : (p : Point) (outcome : Outcome) (c : Component) (saved : Checkpoint) (stop : Place) → Leads d (start_of components) p → p.steps < n
+      → ComparesAt d p outcome c saved (Err stop) → EndsRun d n components (Err (Overflow (sites.Event (event_number p.events) stop.0)))
 
 -- what holds of the run or of its stop holds of what a call returns; where memory runs out it returns neither
 abbrev pub ReturnsRun : (Result Run Stop → Type 0) → Result Run Stop → Type 0

@@ -10,7 +10,7 @@ use Rattle.fs_iet.specs.ExchangeValue.{most_letters}
 -- the field's d, and the open components: the first one is the current one
 pub record StateValue : Type 0 where
   pub d : ℕ
-  pub open : List Component
+  pub components : List Component
 
 -- each component ends where the one before in the list begins, or left of that
 abbrev pub AreDescending : ℕ → List Component → Type 0
@@ -20,11 +20,11 @@ AreDescending d (c ∷ (e ∷ rest)) = IsAtMost (quadratic d) (IsPositive d) (ad
 
 -- the names of all letters, component by component
 abbrev pub open_names : List Component → List ℕ
-open_names open = flat_map (λ c. names_of c.top) open
+open_names components = flat_map (λ c. names_of c.top) components
 
 -- what the type of a `State` keeps: each component is lawful, no two letters have one name, there are at most 512 letters, and the bases descend
 pub record IsState (x : StateValue) : Type 0 where
-  pub lawful : AllByRecursion (IsLawful x.d) x.open
-  pub apart : IsDistinct (open_names x.open)
-  pub few : length (open_names x.open) ≤ most_letters
-  pub in_order : AreDescending x.d x.open
+  pub lawful : AllByRecursion (IsLawful x.d) x.components
+  pub apart : IsDistinct (open_names x.components)
+  pub few : length (open_names x.components) ≤ most_letters
+  pub in_order : AreDescending x.d x.components

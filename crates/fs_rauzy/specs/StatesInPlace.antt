@@ -50,7 +50,7 @@ pub record IsInPlace (letters : List Letter) (top bottom : List ℕ) (extents : 
 
 -- the current component was searched for splits, and has none
 abbrev pub IsSearched : Bool → List Component → Type 0
-IsSearched false open = Unit {0}
+IsSearched false components = Unit {0}
 IsSearched true [] = Unit {0}
 IsSearched true (c ∷ rest) = HasNoSplit c
 

@@ -15,7 +15,7 @@ AtCurrent P (c ∷ rest) = P c
 
 -- a component is open
 abbrev pub IsOpen : List Component → Type 0
-IsOpen open = AtCurrent (λ c. Unit {0}) open
+IsOpen components = AtCurrent (λ c. Unit {0}) components
 
 -- components are open in both states, and this holds of the current ones
 abbrev pub AtBoth : (Component → Component → Type 0) → List Component → List Component → Type 0
@@ -30,14 +30,14 @@ abbrev pub SplitsAt : ℕ → Event → Type 0
 SplitsAt k event = (found : Option Found) × (event ≡ Split k found)
 
 -- such an event is made, whether or not the rule chooses it: its numbers fit
-pub record IsMadeBy (d : ℕ) (P : Event → Type 0) (open : List Component) (outcome : Outcome) : Type 0 where
+pub record IsMadeBy (d : ℕ) (P : Event → Type 0) (components : List Component) (outcome : Outcome) : Type 0 where
   pub kind : P outcome.event
-  pub made : Makes d open outcome
-  pub fits : Tests open outcome.event (Ok true)
+  pub made : Makes d components outcome
+  pub fits : Tests components outcome.event (Ok true)
 
 -- such an event stops at this place, the first one where it overflows
-pub record IsStoppedBy (d : ℕ) (P : Event → Type 0) (open : List Component) (stop : Place) : Type 0 where
+pub record IsStoppedBy (d : ℕ) (P : Event → Type 0) (components : List Component) (stop : Place) : Type 0 where
   pub outcome : Outcome
   pub kind : P outcome.event
-  pub made : Makes d open outcome
-  pub overflows : Tests open outcome.event (Err stop)
+  pub made : Makes d components outcome
+  pub overflows : Tests components outcome.event (Err stop)

@@ -22,10 +22,10 @@ impl State {
     /// proportion: for letter n place 7 + 2n is the product of its length and the saved total, place 8 + 2n that of its saved
     /// length and the total. The error is the first place that overflows. The cost is linear in the letters. Takes no memory.
     pub fn same_shape(&self, other: &State) -> Result<bool, Place>
-        requires open { IsOpen self.now.open }
-        requires saved { IsOpen other.now.open }
-        ensures comparison { AtBoth (λ before after. IsComparison self.now.d before after result) other.now.open self.now.open }
-        ensures alike { IfOk result (λ same. AtBoth (λ before after. IsTrue same ↔ AreAlike self.now.d before after) other.now.open self.now.open) }
+        requires there { IsOpen self.now.components }
+        requires saved { IsOpen other.now.components }
+        ensures comparison { AtBoth (λ before after. IsComparison self.now.d before after result) other.now.components self.now.components }
+        ensures alike { IfOk result (λ same. AtBoth (λ before after. IsTrue same ↔ AreAlike self.now.d before after) other.now.components self.now.components) }
     {
         let now = self.extents.last();
         let before = other.extents.last();
@@ -62,8 +62,9 @@ fn is_proportional(
 {
     for (n, &name) in names.iter().enumerate() {
         let place = 7 + 2 * n as u32;
-        let left = product_at(place, field, after[name as usize].length, total_before)?;
-        let right = product_at(place + 1, field, before[name as usize].length, total)?;
+        let (now, then) = (&after[name as usize], &before[name as usize]);
+        let left = product_at(place, field, now.length, total_before)?;
+        let right = product_at(place + 1, field, then.length, total)?;
         if left != right {
             return Ok(false);
         }

@@ -21,12 +21,12 @@ use std::cmp::Ordering;
 impl State {
     // Compares the last letters of the current component: one wins, or both merge.
     pub fn duel(&mut self) -> Result<Logged, Place>
-        requires last { AtCurrent CanCompare self.old.open }
-        ensures made { IfOk result (λ logged. IsMadeBy self.old.d (λ event. is_step event ≡ true) self.old.open (record { event = logged.event; length = logged.length; open = self.new.open })) }
-        ensures stops { IfErr result (λ stop. IsStoppedBy self.old.d (λ event. is_step event ≡ true) self.old.open stop) }
+        requires last { AtCurrent CanCompare self.old.components }
+        ensures made { IfOk result (λ logged. IsMadeBy self.old.d (λ event. is_step event ≡ true) self.old.components (record { event = logged.event; length = logged.length; components = self.new.components })) }
+        ensures stops { IfErr result (λ stop. IsStoppedBy self.old.d (λ event. is_step event ≡ true) self.old.components stop) }
         ensures unchanged { OnErr result (self.new ≡ self.old) }
         ensures field { self.new.d ≡ self.old.d }
-        ensures returns { OnOk result (KeepsReturns self.old.d self.old.open self.new.open) }
+        ensures returns { OnOk result (KeepsReturns self.old.d self.old.components self.new.components) }
     {
         let x = self.top[self.top.len() - 1];
         let y = self.bottom[self.bottom.len() - 1];
@@ -41,12 +41,12 @@ impl State {
 
     // The top row's last letter x wins over the bottom row's last letter y.
     fn win_above(&mut self, x: u32, y: u32) -> Result<Logged, Place>
-        requires last { AtCurrent (λ c. AreLastNames c x y (λ a b. IsLess self.old.d b.length a.length)) self.old.open }
-        ensures made { IfOk result (λ logged. IsMadeBy self.old.d (λ event. is_step event ≡ true) self.old.open (record { event = logged.event; length = logged.length; open = self.new.open })) }
-        ensures stops { IfErr result (λ stop. IsStoppedBy self.old.d (λ event. is_step event ≡ true) self.old.open stop) }
+        requires last { AtCurrent (λ c. AreLastNames c x y (λ a b. IsLess self.old.d b.length a.length)) self.old.components }
+        ensures made { IfOk result (λ logged. IsMadeBy self.old.d (λ event. is_step event ≡ true) self.old.components (record { event = logged.event; length = logged.length; components = self.new.components })) }
+        ensures stops { IfErr result (λ stop. IsStoppedBy self.old.d (λ event. is_step event ≡ true) self.old.components stop) }
         ensures unchanged { OnErr result (self.new ≡ self.old) }
         ensures field { self.new.d ≡ self.old.d }
-        ensures returns { OnOk result (KeepsReturns self.old.d self.old.open self.new.open) }
+        ensures returns { OnOk result (KeepsReturns self.old.d self.old.components self.new.components) }
     {
         let extent = self.extents.last();
         let winner = &self.letters[x as usize];
@@ -67,12 +67,12 @@ impl State {
 
     // The bottom row's last letter y wins over the top row's last letter x.
     fn win_below(&mut self, x: u32, y: u32) -> Result<Logged, Place>
-        requires last { AtCurrent (λ c. AreLastNames c x y (λ a b. IsLess self.old.d a.length b.length)) self.old.open }
-        ensures made { IfOk result (λ logged. IsMadeBy self.old.d (λ event. is_step event ≡ true) self.old.open (record { event = logged.event; length = logged.length; open = self.new.open })) }
-        ensures stops { IfErr result (λ stop. IsStoppedBy self.old.d (λ event. is_step event ≡ true) self.old.open stop) }
+        requires last { AtCurrent (λ c. AreLastNames c x y (λ a b. IsLess self.old.d a.length b.length)) self.old.components }
+        ensures made { IfOk result (λ logged. IsMadeBy self.old.d (λ event. is_step event ≡ true) self.old.components (record { event = logged.event; length = logged.length; components = self.new.components })) }
+        ensures stops { IfErr result (λ stop. IsStoppedBy self.old.d (λ event. is_step event ≡ true) self.old.components stop) }
         ensures unchanged { OnErr result (self.new ≡ self.old) }
         ensures field { self.new.d ≡ self.old.d }
-        ensures returns { OnOk result (KeepsReturns self.old.d self.old.open self.new.open) }
+        ensures returns { OnOk result (KeepsReturns self.old.d self.old.components self.new.components) }
     {
         let extent = self.extents.last();
         let winner = &self.letters[y as usize];
@@ -93,12 +93,12 @@ impl State {
 
     // The last letters x and y, equally long, become one.
     fn merge(&mut self, x: u32, y: u32) -> Result<Logged, Place>
-        requires last { AtCurrent (λ c. AreLastNames c x y (λ a b. a.length ≡ b.length)) self.old.open }
-        ensures made { IfOk result (λ logged. IsMadeBy self.old.d (λ event. is_step event ≡ true) self.old.open (record { event = logged.event; length = logged.length; open = self.new.open })) }
-        ensures stops { IfErr result (λ stop. IsStoppedBy self.old.d (λ event. is_step event ≡ true) self.old.open stop) }
+        requires last { AtCurrent (λ c. AreLastNames c x y (λ a b. a.length ≡ b.length)) self.old.components }
+        ensures made { IfOk result (λ logged. IsMadeBy self.old.d (λ event. is_step event ≡ true) self.old.components (record { event = logged.event; length = logged.length; components = self.new.components })) }
+        ensures stops { IfErr result (λ stop. IsStoppedBy self.old.d (λ event. is_step event ≡ true) self.old.components stop) }
         ensures unchanged { OnErr result (self.new ≡ self.old) }
         ensures field { self.new.d ≡ self.old.d }
-        ensures returns { OnOk result (KeepsReturns self.old.d self.old.open self.new.open) }
+        ensures returns { OnOk result (KeepsReturns self.old.d self.old.components self.new.components) }
     {
         let extent = self.extents.last();
         let length = self.letters[y as usize].length;
@@ -132,9 +132,11 @@ fn write_won_above(letters: &mut [Interval], winner: usize, loser: usize, number
         letters.new ≡ slice_set (slice_set letters.old winner (record a { length = numbers.now.length })) loser
             (record b { back = numbers.now.back; start = record b.start { vector = numbers.now.vector } }) }
 {
-    letters[winner].length = numbers.length;
-    letters[loser].back = numbers.back;
-    letters[loser].start.v = numbers.vector;
+    let letter = &mut letters[winner];
+    letter.length = numbers.length;
+    let letter = &mut letters[loser];
+    letter.back = numbers.back;
+    letter.start.v = numbers.vector;
 }
 
 // The winner, last in the bottom row, is shorter, and the loser returns later and ends elsewhere.
@@ -146,9 +148,11 @@ fn write_won_below(letters: &mut [Interval], winner: usize, loser: usize, number
         letters.new ≡ slice_set (slice_set letters.old winner (record a { length = numbers.now.length })) loser
             (record b { back = numbers.now.back; end = record b.end { vector = numbers.now.vector } }) }
 {
-    letters[winner].length = numbers.length;
-    letters[loser].back = numbers.back;
-    letters[loser].end.v = numbers.vector;
+    let letter = &mut letters[winner];
+    letter.length = numbers.length;
+    let letter = &mut letters[loser];
+    letter.back = numbers.back;
+    letter.end.v = numbers.vector;
 }
 
 // The letter y returns later, and starts where x did.
@@ -158,8 +162,10 @@ fn write_merged(letters: &mut [Interval], x: usize, y: usize, numbers: &MergedNu
     ensures { let a = slice_index_or letters.old x no_letter in let b = slice_index_or letters.old y no_letter in
         letters.new ≡ slice_set letters.old y (record b { back = numbers.now.back; corner = a.corner; start = a.start }) }
 {
-    let Interval { corner, start, .. } = letters[x];
-    letters[y].back = numbers.back;
-    letters[y].corner = corner;
-    letters[y].start = start;
+    let letter = &letters[x];
+    let (corner, start) = (letter.corner, letter.start);
+    let letter = &mut letters[y];
+    letter.back = numbers.back;
+    letter.corner = corner;
+    letter.start = start;
 }

@@ -158,8 +158,8 @@ pub fn find_prefix(letters: &[Interval], names: &[u32]) -> Result<Elem, Place>
 {
     match names.split_first() {
         Some((first, others)) => {
-            let sum = letters[*first as usize].length;
-            add_lengths(letters, others, sum)
+            let letter = letters[*first as usize];
+            add_lengths(letters, others, letter.length)
         }
         None => Ok(Elem::ZERO),
     }
@@ -173,7 +173,8 @@ fn add_lengths(letters: &[Interval], names: &[u32], first: Elem) -> Result<Elem,
 {
     let mut sum = first;
     for (n, &name) in names.iter().enumerate() {
-        sum = sum_at(1 + n as u32, sum, letters[name as usize].length)?;
+        let letter = &letters[name as usize];
+        sum = sum_at(1 + n as u32, sum, letter.length)?;
     }
     Ok(sum)
 }

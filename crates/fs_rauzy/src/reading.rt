@@ -30,8 +30,8 @@ impl State {
 
     // The part that the current component is, as it is now.
     pub fn part(&self, alloc: Global, kind: Kind) -> Result<Part, AllocError>
-        requires { IsOpen self.now.open }
-        ensures { IfOk result (λ part. AtCurrent (λ c. part ≡ part_of c kind) self.now.open) }
+        requires { IsOpen self.now.components }
+        ensures { IfOk result (λ part. AtCurrent (λ c. part ≡ part_of c kind) self.now.components) }
     {
         let extent = self.extents.last();
         let letters = list_letters(alloc, &self.letters, &self.top[extent.first..])?;

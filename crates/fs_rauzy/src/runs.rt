@@ -26,9 +26,9 @@ use std::alloc::{AllocError, Global};
 /// linear in the letters of its component; an event takes about 130 bytes.
 pub fn find_run(alloc: Global, state: State, budget: u32) -> Result<Run, Stop>
     requires { budget ≤ 1000000 }
-    ensures run { ReturnsRun (EndsRun state.d budget state.open) result }
+    ensures run { ReturnsRun (EndsRun state.d budget state.components) result }
     // There is no other end of the run.
-    ensures only { (given : Result Run Stop) → EndsRun state.d budget state.open given → ReturnsRun (λ returned. returned ≡ given) result }
+    ensures only { (given : Result Run Stop) → EndsRun state.d budget state.components given → ReturnsRun (λ returned. returned ≡ given) result }
     ensures ascending { IfOk result (λ run. ArePartsAscending state.d run.parts) }
 {
     let mut progress = Progress::start(alloc, state)?;

@@ -18,12 +18,12 @@ use fs_quadratic::Elem;
 impl State {
     // Splits the current component after k letters: the right part is the current component then.
     pub fn split_at(&mut self, k: u32) -> Result<Logged, Place>
-        requires split { AtCurrent (λ c. HasSplit c k) self.old.open }
-        ensures made { IfOk result (λ logged. IsMadeBy self.old.d (SplitsAt k) self.old.open (record { event = logged.event; length = logged.length; open = self.new.open })) }
-        ensures stops { IfErr result (λ stop. IsStoppedBy self.old.d (SplitsAt k) self.old.open stop) }
+        requires split { AtCurrent (λ c. HasSplit c k) self.old.components }
+        ensures made { IfOk result (λ logged. IsMadeBy self.old.d (SplitsAt k) self.old.components (record { event = logged.event; length = logged.length; components = self.new.components })) }
+        ensures stops { IfErr result (λ stop. IsStoppedBy self.old.d (SplitsAt k) self.old.components stop) }
         ensures unchanged { OnErr result (self.new ≡ self.old) }
         ensures field { self.new.d ≡ self.old.d }
-        ensures returns { OnOk result (KeepsReturns self.old.d self.old.open self.new.open) }
+        ensures returns { OnOk result (KeepsReturns self.old.d self.old.components self.new.components) }
     {
         let extent = self.extents.last();
         let middle = extent.first + k as usize;
@@ -70,6 +70,8 @@ fn clear_ends(letters: &mut [Interval], starting: usize, ending: usize)
     ensures { let started = slice_set letters.old starting (without_start starting (slice_index_or letters.old starting no_letter)) in
         letters.new ≡ slice_set started ending (without_end ending (slice_index_or started ending no_letter)) }
 {
-    letters[starting].start.real = false;
-    letters[ending].end.real = false;
+    let letter = &mut letters[starting];
+    letter.start.real = false;
+    let letter = &mut letters[ending];
+    letter.end.real = false;
 }

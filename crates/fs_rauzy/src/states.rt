@@ -12,7 +12,8 @@ ghost use Rattle.fs_rauzy.specs.declared.states.Choice.{Choice};
 ghost use Rattle.fs_rauzy.specs.Events.{HasSplit, HasEqualPrefixes, Outcome};
 ghost use Rattle.fs_rauzy.specs.FirstReturns.{AllGiveReturns, KeepsReturns};
 ghost use Rattle.fs_rauzy.specs.Rule.{IsMade, StopsAt};
-ghost use Rattle.fs_rauzy.specs.Steps.{AtCurrent, IsOpen};
+ghost use Rattle.fs_rauzy.specs.declared.events.Event.TheVariants.{Closed};
+ghost use Rattle.fs_rauzy.specs.Steps.{AtCurrent, IsOpen, IsMadeBy};
 ghost use Rattle.fs_rauzy.specs.StatesInPlace.{IsChoice};
 
 use crate::events::Event;
@@ -47,14 +48,15 @@ pub struct State {
 }
 
 impl Model for State {
+    ghost use Rattle.std.specs.Prelude.{◌≡◌, ◌≤◌, length};
     ghost use Rattle.fs_rauzy.specs.States.{StateValue, IsState};
     ghost use Rattle.fs_rauzy.specs.StatesInPlace.{opened, IsInPlace, IsSearched};
 
     ghost Value = { StateValue };
 
-    ghost view = { λ x. record { d = x.field.d; open = opened x.letters.items x.top.items x.bottom.items x.extents.items } };
+    ghost view = { λ x. record { d = x.field.d; components = opened x.letters.items x.top.items x.bottom.items x.extents.items } };
 
-    ghost invariant = { λ x. IsState (record { d = x.field.d; open = opened x.letters.items x.top.items x.bottom.items x.extents.items })
+    ghost invariant = { λ x. IsState (record { d = x.field.d; components = opened x.letters.items x.top.items x.bottom.items x.extents.items })
         × IsInPlace x.letters.items x.top.items x.bottom.items x.extents.items
         × (length x.letters.items ≤ x.extents.room)
         × (length x.places.items ≡ length x.letters.items)
@@ -77,10 +79,10 @@ impl State {
     /// that later events need, linear in the letters. It is refused only where memory runs out.
     pub fn new(alloc: Global, exchange: Exchange) -> Result<State, NoMemory>
         ensures field { IfOk result (λ state. state.d ≡ exchange.d) }
-        ensures open { IfOk result (λ state. state.open ≡ exchange.component ∷ []) }
+        ensures components { IfOk result (λ state. state.components ≡ exchange.component ∷ []) }
         // The exchange of a surface and a direction gives first returns: each is one crossing.
         ensures returns { IfOk result (λ state. (s : GluedPolygons) (v : PlaneVector) → IsTranslationSurface s → v ≢ vector_zero → s.d ≡ exchange.d
-            → IsExchange s v exchange.component → AllGiveReturns s v state.open) }
+            → IsExchange s v exchange.component → AllGiveReturns s v state.components) }
     {
         let count = exchange.letters() as usize;
         let letters = read_letters(alloc, &exchange)?;
@@ -106,7 +108,7 @@ impl State {
 
     /// Whether the induction is done: no component is open.
     pub fn is_done(&self) -> bool
-        ensures { IsTrue result ↔ (self.now.open ≡ []) }
+        ensures { IsTrue result ↔ (self.now.components ≡ []) }
     {
         self.extents.is_empty()
     }
@@ -129,16 +131,16 @@ impl State {
     ///
     /// The cost is linear in the letters of the current component. Takes no memory.
     pub fn step(&mut self) -> Result<Event, Place>
-        requires open { IsOpen self.old.open }
-        ensures made { IfOk result (λ event. (length : Quadratic) × IsMade self.old.d self.old.open (record { event = event; length = length; open = self.new.open })) }
-        ensures stops { IfErr result (λ stop. StopsAt self.old.d self.old.open stop) }
+        requires there { IsOpen self.old.components }
+        ensures made { IfOk result (λ event. (length : Quadratic) × IsMade self.old.d self.old.components (record { event = event; length = length; components = self.new.components })) }
+        ensures stops { IfErr result (λ stop. StopsAt self.old.d self.old.components stop) }
         ensures unchanged { OnErr result (self.new ≡ self.old) }
         ensures field { self.new.d ≡ self.old.d }
         // There is no other next event, and no other place: these are the ones of the rule.
-        ensures only_event { (outcome : Outcome) → IsMade self.old.d self.old.open outcome → (result ≡ Ok outcome.event) × (self.new.open ≡ outcome.open) }
-        ensures only_place { (stop : Place) → StopsAt self.old.d self.old.open stop → result ≡ Err stop }
+        ensures only_event { (outcome : Outcome) → IsMade self.old.d self.old.components outcome → (result ≡ Ok outcome.event) × (self.new.components ≡ outcome.components) }
+        ensures only_place { (stop : Place) → StopsAt self.old.d self.old.components stop → result ≡ Err stop }
         // Where the state gave first returns of a surface and a direction, it still does.
-        ensures returns { OnOk result (KeepsReturns self.old.d self.old.open self.new.open) }
+        ensures returns { OnOk result (KeepsReturns self.old.d self.old.components self.new.components) }
     {
         let logged = self.advance()?;
         Ok(logged.event)
@@ -146,13 +148,13 @@ impl State {
 
     // Makes the next event, as `step`.
     fn advance(&mut self) -> Result<Logged, Place>
-        requires open { IsOpen self.old.open }
-        ensures made { IfOk result (λ logged. IsMade self.old.d self.old.open (record { event = logged.event; length = logged.length; open = self.new.open })) }
-        ensures stops { IfErr result (λ stop. StopsAt self.old.d self.old.open stop) }
+        requires there { IsOpen self.old.components }
+        ensures made { IfOk result (λ logged. IsMade self.old.d self.old.components (record { event = logged.event; length = logged.length; components = self.new.components })) }
+        ensures stops { IfErr result (λ stop. StopsAt self.old.d self.old.components stop) }
         ensures unchanged { OnErr result (self.new ≡ self.old) }
         ensures field { self.new.d ≡ self.old.d }
-        ensures returns { OnOk result (KeepsReturns self.old.d self.old.open self.new.open) }
-        ensures kept { IsRadicand self.old.d × AllByRecursion (IsLawful self.old.d) self.old.open }
+        ensures returns { OnOk result (KeepsReturns self.old.d self.old.components self.new.components) }
+        ensures kept { IsRadicand self.old.d × AllByRecursion (IsLawful self.old.d) self.old.components }
     {
         match self.choose() {
             Choice::Split(k) => self.split_at(k),
@@ -163,10 +165,10 @@ impl State {
 
     // What the rule chooses.
     pub(crate) fn choose(&mut self) -> Choice
-        requires { IsOpen self.old.open }
-        ensures choice { IsChoice self.old.open result }
+        requires { IsOpen self.old.components }
+        ensures choice { IsChoice self.old.components result }
         ensures unchanged { self.new ≡ self.old }
-        ensures kept { IsRadicand self.old.d × AllByRecursion (IsLawful self.old.d) self.old.open }
+        ensures kept { IsRadicand self.old.d × AllByRecursion (IsLawful self.old.d) self.old.components }
     {
         match self.find_split() {
             Some(k) => Choice::Split(k),
@@ -177,12 +179,12 @@ impl State {
 
     // The greatest number of letters after which the current component can be split.
     fn find_split(&mut self) -> Option<u32>
-        requires { IsOpen self.old.open }
-        ensures some { IfSome result (λ k. AtCurrent (λ c. HasSplit c k) self.old.open) }
-        ensures greatest { IfSome result (λ k. AtCurrent (λ c. (j : ℕ) → HasSplit c j → j ≤ k) self.old.open) }
-        ensures none { result ≡ None → AtCurrent (λ c. (j : ℕ) → ¬ HasSplit c j) self.old.open }
+        requires { IsOpen self.old.components }
+        ensures some { IfSome result (λ k. AtCurrent (λ c. HasSplit c k) self.old.components) }
+        ensures greatest { IfSome result (λ k. AtCurrent (λ c. (j : ℕ) → HasSplit c j → j ≤ k) self.old.components) }
+        ensures none { result ≡ None → AtCurrent (λ c. (j : ℕ) → ¬ HasSplit c j) self.old.components }
         ensures unchanged { self.new ≡ self.old }
-        ensures kept { IsRadicand self.old.d × AllByRecursion (IsLawful self.old.d) self.old.open }
+        ensures kept { IsRadicand self.old.d × AllByRecursion (IsLawful self.old.d) self.old.components }
     {
         if self.searched {
             return None;
@@ -199,8 +201,8 @@ impl State {
 
     // Whether the current component can be split after k letters.
     pub fn prefix_equal(&self, k: u32) -> bool
-        requires { IsOpen self.now.open }
-        ensures { IsTrue result ↔ AtCurrent (λ c. HasSplit c k) self.now.open }
+        requires { IsOpen self.now.components }
+        ensures { IsTrue result ↔ AtCurrent (λ c. HasSplit c k) self.now.components }
     {
         if k == 0 || k >= self.letters_now() {
             return false;
@@ -211,18 +213,18 @@ impl State {
 
     // How many letters the current component has.
     pub fn letters_now(&self) -> u32
-        requires { IsOpen self.now.open }
-        ensures { AtCurrent (λ c. result ≡ length c.top) self.now.open }
+        requires { IsOpen self.now.components }
+        ensures { AtCurrent (λ c. result ≡ length c.top) self.now.components }
     {
         (self.top.len() - self.extents.last().first) as u32
     }
 
     // Closes the current component, of one letter or alike to an earlier state of it.
     pub fn close(&mut self) -> Logged
-        requires { IsOpen self.old.open }
-        ensures made { IsMadeBy self.old.d (λ event. event ≡ Closed) self.old.open (record { event = result.event; length = result.length; open = self.new.open }) }
+        requires { IsOpen self.old.components }
+        ensures made { IsMadeBy self.old.d (λ event. event ≡ Closed) self.old.components (record { event = result.event; length = result.length; components = self.new.components }) }
         ensures field { self.new.d ≡ self.old.d }
-        ensures returns { KeepsReturns self.old.d self.old.open self.new.open }
+        ensures returns { KeepsReturns self.old.d self.old.components self.new.components }
     {
         let first = self.extents.last().first;
         self.top.truncate(first);
