@@ -1,5 +1,5 @@
 -- What the comparison of a component with an earlier one tells: whether they are alike.
-use Rattle.std.proofs.Common.{◌≡◌, ◌↔◌, ℕ, zero, suc, ◌+◌, ◌*◌, Bool, true, false, cond, List, [], ◌∷◌, Some, None, Result, Ok, Err, IsTrue, IfOk, refl, sym, ap, ◌∙◌, subst}
+use Rattle.std.proofs.Common.{◌≡◌, ◌↔◌, ℕ, zero, suc, ◌+◌, ◌*◌, Bool, true, false, cond, List, [], ◌∷◌, Some, None, Result, Ok, Err, IsTrue, IfOk, refl, sym, ap, ◌∙◌, subst, inl, inr}
 use Rattle.std.proofs.lemmas.Bool.{cases_eq}
 use Rattle.std.proofs.lemmas.Option.{same_Some, none-some}
 use Rattle.std.specs.List.{slice_get}
@@ -10,7 +10,7 @@ use Rattle.fs_quadratic.specs.declared.steps.Place.{Place}
 use Rattle.fs_plane.specs.Vector.{is_same_number}
 use Rattle.fs_plane.proofs.EqualVectors.{Decides-is_same_number}
 use Rattle.fs_gluing.specs.Exchanges.{Letter, Component}
-use Rattle.fs_rauzy.specs.Comparisons.{HaveEqualRows, IsComparison, checked_proportion}
+use Rattle.fs_rauzy.specs.Comparisons.{HaveEqualRows, IsComparison, other_rows, equal_rows, checked_proportion}
 use Rattle.fs_rauzy.specs.Loops.{AreAlike}
 
 -- the lengths of letters at equal places are in the proportion of the totals

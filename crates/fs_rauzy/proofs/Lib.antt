@@ -1,5 +1,6 @@
 mod AlikeComponents
 mod ChosenEvents
+mod ClosedInPlace
 mod ExchangeInPlace
 pub mod OpenedRows
 mod Pending

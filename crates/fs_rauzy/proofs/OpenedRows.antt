@@ -5,7 +5,7 @@ use Rattle.std.proofs.lemmas.List.FromFn.{length-range_with_len, fill_by_all}
 use Rattle.std.specs.List.{AllByRecursion, range_with_len}
 use Rattle.fs_lists.specs.Members.{IsIn, IsDistinct}
 use Rattle.fs_lists.proofs.All.{All-prefix, All-suffix}
-use Rattle.fs_lists.proofs.Equal.{heads_equal, tails_equal, cons_equal}
+use Rattle.fs_lists.proofs.Equal.{heads_equal, tails_equal, cons_equal, nil_not_around}
 use Rattle.fs_lists.proofs.Members.{in_append_left, All-member}
 use Rattle.fs_lists.proofs.Ranges.{in_range}
 use Rattle.fs_lists.proofs.Removal.{at_most_partners}
@@ -77,6 +77,11 @@ pub extents_few : (n : ℕ) (extents : List Extent) → AreLaid n extents → le
 extents_few n [] a = omega arith
 extents_few n (e ∷ extents) a = let rest = extents_few e.first extents a.1 in let below = a.0 in omega arith
 
+-- no component is open exactly where there is no extent
+pub none_opened : (letters : List Letter) (top bottom : List ℕ) (extents : List Extent) → extents ≡ [] ↔ opened letters top bottom extents ≡ []
+none_opened letters top bottom [] = (λ h. refl, λ h. refl)
+none_opened letters top bottom (e ∷ extents) = (λ h. absurd (nil_not_around e [] extents (sym h)), λ h. absurd (nil_not_around (component_at letters top bottom e) [] _ (sym h)))
+
 -- ---- the current component
 
 module _ {letters : List Letter} {top bottom : List ℕ} {e : Extent} {extents : List Extent} (p : IsInPlace letters top bottom (e ∷ extents)) where
@@ -145,8 +150,8 @@ descending_rest d c (e ∷ rest) h = h.1
 
 module _ {d : ℕ} {c : Component} {rest : List Component} (h : IsState (record { d = d; components = c ∷ rest })) where
   -- where the current component closes, the laws hold of the others
-  pub closed_state : IsState (record { d = d; components = rest })
-  closed_state = record {
+  pub rest_state : IsState (record { d = d; components = rest })
+  rest_state = record {
     lawful = h.lawful.1;
     apart = distinct_suffix (names_of c.top) (open_names rest) h.apart;
     few = let long = length-append (names_of c.top) (open_names rest) in let all = h.few in omega arith;
