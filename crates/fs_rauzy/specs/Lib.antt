@@ -1,7 +1,9 @@
 pub mod Comparisons
+pub mod Cylinders
 pub mod Events
 pub mod FirstReturns
 pub mod Loops
+pub mod Measures
 pub mod Rooms
 pub mod Rule
 pub mod Runs
