@@ -10,5 +10,7 @@ pub mod LetterChanges
 pub mod OpenedRows
 pub mod OutcomeUnique
 mod Pending
+mod Prefixes
 pub mod RowEnds
+mod RowMoves
 pub mod SplitPlaces
