@@ -13,4 +13,5 @@ mod Pending
 mod Prefixes
 pub mod RowEnds
 mod RowMoves
+mod SearchedRows
 pub mod SplitPlaces
