@@ -1,7 +1,10 @@
 -- An event that is made by the rule's choice is the next one.
-use Rattle.std.proofs.Common.{◌≡◌, ℕ, Bool, true, false, List, [], ◌∷◌, refl, sym, ap, ◌∙◌, subst}
+use Rattle.std.proofs.Common.{◌≡◌, ◌≢◌, ℕ, ◌<◌, length, arith, Bool, true, false, List, [], ◌∷◌, refl, sym, ap, ◌∙◌, subst}
+use Rattle.std.specs.List.{AllByRecursion}
+use Rattle.fs_quadratic.specs.Radicand.{IsRadicand}
+use Rattle.fs_quadratic.proofs.Laws.{field_order}
 use Rattle.fs_quadratic.specs.declared.steps.Place.{Place}
-use Rattle.fs_gluing.specs.Exchanges.{Component}
+use Rattle.fs_gluing.specs.Exchanges.{Component, IsLawful}
 use Rattle.fs_rauzy.specs.declared.events.Event.{Event}
 use Rattle.fs_rauzy.specs.declared.events.Event.TheVariants as events
 use Rattle.fs_rauzy.specs.declared.states.Choice.TheVariants as choices
@@ -9,6 +12,7 @@ use Rattle.fs_rauzy.specs.Events.{HasSplit, Outcome}
 use Rattle.fs_rauzy.specs.Rule.{FollowsRule, IsMade, StopsAt, is_step}
 use Rattle.fs_rauzy.specs.StatesInPlace.{IsChoice}
 use Rattle.fs_rauzy.specs.Steps.{AtCurrent, CanCompare, SplitsAt, IsMadeBy, IsStoppedBy}
+use Rattle.fs_rauzy.proofs.SplitPlaces.{can_compare}
 
 -- where a split is chosen, the current component can be split so
 pub splits_now : (components : List Component) (k : ℕ) → IsChoice components (choices.Split k) → AtCurrent (λ c. HasSplit c k) components
@@ -19,6 +23,14 @@ splits_now (c ∷ rest) k h = h.0
 pub compares_now : (components : List Component) → IsChoice components choices.Compare → AtCurrent CanCompare components
 compares_now [] h = absurd h
 compares_now (c ∷ rest) h = h.1
+
+-- a component of several letters that can't be split is compared
+pub compare_chosen : (d : ℕ) (components : List Component) (n : ℕ) → IsRadicand d → AllByRecursion (IsLawful d) components → AtCurrent (λ c. (k : ℕ) → ¬ HasSplit c k) components
+    → AtCurrent (λ c. n ≡ length c.top) components → n ≢ 1 → IsChoice components choices.Compare
+compare_chosen d [] n radicand lawful none long more = absurd none
+compare_chosen d (c ∷ rest) n radicand lawful none long more =
+    let some = lawful.0.some_letter in
+    (none, can_compare (field_order radicand) lawful.0 none (omega arith))
 
 -- ---- the rule
 

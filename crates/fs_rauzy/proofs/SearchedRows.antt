@@ -4,13 +4,14 @@ use Rattle.std.proofs.lemmas.List.{take_rest, take_at}
 use Rattle.std.specs.Option.{is_some}
 use Rattle.fs_lists.specs.Members.{IsDistinct}
 use Rattle.fs_gluing.specs.Exchanges.{Letter, Component}
+use Rattle.fs_iet.proofs.Rearrangements.{distinct_permutation}
 use Rattle.fs_rauzy.specs.declared.rows.Extent.{Extent}
 use Rattle.fs_rauzy.specs.Events.{HasSplit}
 use Rattle.fs_rauzy.specs.SplitsInPlace.{HaveSamePrefix}
 use Rattle.fs_rauzy.specs.States.{IsState}
 use Rattle.fs_rauzy.specs.StatesInPlace.{component_at, opened, IsInPlace, IsSearched}
 use Rattle.fs_rauzy.specs.Steps.{AtCurrent}
-use Rattle.fs_rauzy.proofs.OpenedRows.{now_named, now_apart, split_of_rows, rows_of_split}
+use Rattle.fs_rauzy.proofs.OpenedRows.{now_named, now_length, now_apart, split_of_rows, rows_of_split}
 
 -- the slice of a row from a place on
 pub row_slice : (row top : List ℕ) (n : ℕ) → row ≡ top → take (length row - n) (drop n row) ≡ drop n top
@@ -52,6 +53,16 @@ module _ (letters : List Letter) (top bottom : List ℕ) {extents rest : List Ex
   -- no name is twice in its top row
   pub now_once : IsDistinct (drop e.first top)
   now_once = now_apart here
+
+  -- and none in its bottom row
+  pub below_once : {d : ℕ} → IsState (record { d = d; components = opened letters top bottom extents }) → IsDistinct (drop e.first bottom)
+  below_once state = distinct_permutation (drop e.first top) (drop e.first bottom) (now_same state) now_once
+
+  -- so many letters the component has
+  pub letters_told : (n : ℕ) (row : List ℕ) → row ≡ drop e.first top → (components : List Component) → opened letters top bottom extents ≡ components
+      → AtCurrent (λ c. n ≡ length c.top) components → n ≡ length row
+  letters_told n row same components is h =
+      subst (λ components. AtCurrent (λ c. n ≡ length c.top) components) (sym (open_here components is)) h ∙ now_length here ∙ ap length (sym same)
 
   module _ (row below : List ℕ) (same_row : row ≡ drop e.first top) (same_below : below ≡ drop e.first bottom) (components : List Component) (is : opened letters top bottom extents ≡ components) where
     -- the component can be split after the names that are found
