@@ -7,9 +7,12 @@ mod ExchangeInPlace
 pub mod LastLetters
 pub mod LawfulEvents
 pub mod LetterChanges
+mod ListsSoFar
 pub mod OpenedRows
 pub mod OutcomeUnique
 mod Pending
+mod Places
+mod PowersOfTwo
 mod Prefixes
 pub mod RowEnds
 mod RowMoves

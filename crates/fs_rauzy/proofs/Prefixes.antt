@@ -4,6 +4,7 @@ use Rattle.std.proofs.lemmas.Bool.{cases_eq}
 use Rattle.std.proofs.lemmas.List.{take_more, length-take-le, length-take}
 use Rattle.std.proofs.lemmas.Option.{same_Some, slice_get-get_or}
 use Rattle.std.specs.List.{slice_get}
+use Rattle.std.specs.Option.{IfSome}
 use Rattle.fs_lists.specs.Members.{IsIn, IsDistinct}
 use Rattle.fs_lists.proofs.Members.{in_append_left, in_append_right, in_append_cases}
 use Rattle.fs_lists.proofs.Removal.{at_most_partners}
@@ -155,3 +156,15 @@ module _ (top bottom : List ℕ) (apart_top : IsDistinct top) (apart_bottom : Is
       let most : end ≤ n = (ends n).0 (λ x. (proper.same x).1) in
       let least : n ≤ end = ends_least top bottom n end apart_bottom (omega arith) ends in
       (omega arith, omega arith)
+
+-- what is greatest up to the number of all names is greatest
+pub greatest_of_all : (top bottom : List ℕ) (n : ℕ) (greatest : Option ℕ) → length top ≤ n → IsGreatestUpTo (IsProperPrefix top bottom) n greatest
+    → IfSome greatest (λ k. (j : ℕ) → 0 < j → j < length top → HaveSamePrefix top bottom j → j ≤ k)
+greatest_of_all top bottom n None all g = tt
+greatest_of_all top bottom n (Some k) all g = λ j some others same. g.2 j (omega arith) (record { some = some; others = others; same = same })
+
+-- and if there is none, there is none at all
+pub none_of_all : (top bottom : List ℕ) (n : ℕ) (greatest : Option ℕ) → length top ≤ n → IsGreatestUpTo (IsProperPrefix top bottom) n greatest → greatest ≡ None
+    → (j : ℕ) → 0 < j → j < length top → ¬ HaveSamePrefix top bottom j
+none_of_all top bottom n None all g e j some others same = g j (omega arith) (record { some = some; others = others; same = same })
+none_of_all top bottom n (Some k) all g e j some others same = absurd (cc)
