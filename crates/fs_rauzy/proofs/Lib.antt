@@ -2,6 +2,8 @@ mod EventNumbers
 mod LastInPlace
 mod MergedInPlace
 mod Pending2
+mod Prefixes
+mod RowMoves
 mod RowsAround
 mod SplitInPlace
 mod WonInPlace
