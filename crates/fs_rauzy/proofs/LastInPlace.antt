@@ -86,7 +86,7 @@ module _ {letters : List Letter} {top bottom : List ℕ} {e : Extent} {extents :
     above_distinct : IsDistinct (drop e.first top)
     above_distinct = subst IsDistinct (names_at letters (drop e.first top) place.named (All-drop (λ name. name < length letters) e.first top place.top_within)) lawful.names
 
-    x_below : IsIn x (drop e.first bottom)
+    pub x_below : IsIn x (drop e.first bottom)
     x_below =
         in_permutation x (names_of (letters_at letters (drop e.first top))) (drop e.first bottom) lawful.rows
         (subst (IsIn x) (sym (names_at letters (drop e.first top) place.named (All-drop (λ name. name < length letters) e.first top place.top_within))) last.x_there)

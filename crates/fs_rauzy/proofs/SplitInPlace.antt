@@ -305,7 +305,7 @@ module _ {letters : List Letter} {top bottom : List ℕ} {e : Extent} {extents :
         bottom_within = subst (λ (n : ℕ). AllByRecursion (λ name. name < n) bottom) (sym long) place.bottom_within;
         as_long = place.as_long;
         apart = place.apart;
-        laid = (inside.2, omega arith, place.laid.1);
+        laid = (inside.2, (omega arith, place.laid.1));
       }
 
 -- ---- room for one more component
@@ -323,13 +323,13 @@ room_to_split letters top bottom e extents k place some within =
     let names : length top ≤ length letters = distinct_below (length letters) top place.top_within place.apart in
     omega arith
   where
+    length-range : (i n : ℕ) → length (range_with_len i n) ≡ n
+    length-range i zero = refl
+    length-range i (suc n) = ap suc (length-range (i + 1) n)
+
     distinct_below : (n : ℕ) (names : List ℕ) → AllByRecursion (λ name. name < n) names → IsDistinct names → length names ≤ n
     distinct_below n names within apart =
         subst (λ (m : ℕ). length names ≤ m) (length-range 0 n)
         (at_most_partners (λ u v. u ≡ v) (λ u v. u ≡ v) names (range_with_len 0 n)
         (λ x h. (x, in_range 0 n x (omega arith) (let below : x < n = All-member (λ name. name < n) names x within h in omega arith), refl))
         (λ x w y hx hw e f. e ∙ sym f) apart)
-
-    length-range : (i n : ℕ) → length (range_with_len i n) ≡ n
-    length-range i zero = refl
-    length-range i (suc n) = ap suc (length-range (i + 1) n)
