@@ -14,7 +14,7 @@ use Rattle.fs_rauzy.specs.FirstReturns.{KeepsReturns}
 use Rattle.fs_rauzy.specs.Rule.{Tests, passed}
 use Rattle.fs_rauzy.specs.States.{StateValue, IsState}
 use Rattle.fs_rauzy.specs.StatesInPlace.{component_at, opened, IsInPlace, IsSearched, AreLastNames}
-use Rattle.fs_rauzy.specs.Steps.{AtCurrent, IsStoppedBy}
+use Rattle.fs_rauzy.specs.Steps.{AtCurrent, IsMadeBy}
 use Rattle.fs_rauzy.proofs.LastInPlace.{AreLastInPlace, last_in_place, x_below}
 use Rattle.fs_rauzy.proofs.Pending2.{event_keeps_state, event_keeps_returns}
 use Rattle.fs_rauzy.proofs.WrittenLetters.{in_drop}
@@ -51,6 +51,18 @@ event_at {v = v} {event = event} {noted = noted} {letters = letters} {top = top}
     (subst (λ (row : List ℕ). IsEventInPlace v event noted letters row bottom2 extents2) (sym c)
     (subst (λ (row : List ℕ). IsEventInPlace v event noted letters top row extents2) (sym d)
     (subst (λ (es : List Extent). IsEventInPlace v event noted letters top bottom es) (sym e) h))))
+
+-- what its call shows of the state
+pub made_by : {v w : StateValue} {P : Event → Type 0} {event : Event} {noted : Quadratic} {letters : List Letter} {top bottom : List ℕ} {extents : List Extent} → v ≡ w → P event
+    → IsEventInPlace v event noted letters top bottom extents → IsMadeBy w.d P w.components (record { event = event; length = noted; components = opened letters top bottom extents })
+made_by {P = P} {event = event} {noted = noted} {letters = letters} {top = top} {bottom = bottom} {extents = extents} same kind is =
+    subst (λ (v : StateValue). IsMadeBy v.d P v.components (record { event = event; length = noted; components = opened letters top bottom extents })) same
+    (record { kind = kind; made = is.made; fits = is.fits })
+
+pub returns_by : {v w : StateValue} {event : Event} {noted : Quadratic} {letters : List Letter} {top bottom : List ℕ} {extents : List Extent} → v ≡ w
+    → IsEventInPlace v event noted letters top bottom extents → KeepsReturns w.d w.components (opened letters top bottom extents)
+returns_by {letters = letters} {top = top} {bottom = bottom} {extents = extents} same is =
+    subst (λ (v : StateValue). KeepsReturns v.d v.components (opened letters top bottom extents)) same is.returns
 
 -- a test that passes or stops, of what is computed
 pub passed_ok : {A : Type 0} (r : Result A Place) (x : A) → r ≡ Ok x → passed r ≡ Ok true

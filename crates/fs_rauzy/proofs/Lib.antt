@@ -1,4 +1,5 @@
 mod EventNumbers
+mod EventsInPlace
 mod LastInPlace
 mod MergedInPlace
 mod Pending2
@@ -7,4 +8,5 @@ mod RowMoves
 mod RowsAround
 mod SplitInPlace
 mod WonInPlace
+mod WonSteps
 mod WrittenLetters
