@@ -3,6 +3,9 @@ mod EventsInPlace
 mod LastInPlace
 mod MergedInPlace
 mod Pending2
+mod ListsSoFar
+mod Places
+mod PowersOfTwo
 mod Prefixes
 mod RowMoves
 mod RowsAround
