@@ -15,8 +15,9 @@ use Rattle.fs_rauzy.specs.Rule.{Tests, passed}
 use Rattle.fs_rauzy.specs.States.{StateValue, IsState}
 use Rattle.fs_rauzy.specs.StatesInPlace.{component_at, opened, IsInPlace, IsSearched, AreLastNames}
 use Rattle.fs_rauzy.specs.Steps.{AtCurrent, IsMadeBy}
+use Rattle.fs_rauzy.proofs.EventReturns.{events_keep_returns}
 use Rattle.fs_rauzy.proofs.LastInPlace.{AreLastInPlace, last_in_place, x_below}
-use Rattle.fs_rauzy.proofs.Pending2.{event_keeps_state, event_keeps_returns}
+use Rattle.fs_rauzy.proofs.LawfulEvents.{event_keeps_state}
 use Rattle.fs_rauzy.proofs.WrittenLetters.{in_drop}
 
 -- the event is made of the state's components, and gives those of these lists
@@ -32,14 +33,7 @@ pub event_in_place : {v : StateValue} {event : Event} {noted : Quadratic} {lette
     → IsState v → Makes v.d v.components (record { event = event; length = noted; components = opened letters top bottom extents }) → Tests v.components event (Ok true)
     → IsInPlace letters top bottom extents → IsEventInPlace v event noted letters top bottom extents
 event_in_place {v = v} {event = event} {noted = noted} {letters = letters} {top = top} {bottom = bottom} {extents = extents} L state made fits place =
-    let outcome : Outcome = record { event = event; length = noted; components = opened letters top bottom extents } in
-    record {
-      made = made;
-      fits = fits;
-      state = event_keeps_state L v.components outcome state made;
-      place = place;
-      returns = event_keeps_returns v.d v.components outcome state.lawful made;
-    }
+    record { made = made; fits = fits; state = event_keeps_state L state made; place = place; returns = events_keep_returns state.lawful made }
 
 -- lists that are equal to those after an event
 pub event_at : {v : StateValue} {event : Event} {noted : Quadratic} {letters : List Letter} {top bottom : List ℕ} {extents : List Extent}

@@ -1,31 +1,30 @@
-mod EventNumbers
-mod EventsInPlace
-mod LastInPlace
-mod MergedInPlace
-mod Pending2
-mod ListsSoFar
-mod Places
-mod PowersOfTwo
-mod Prefixes
-mod RowMoves
-mod RowsAround
-mod SplitInPlace
-mod WonInPlace
-mod WonSteps
-mod WrittenLetters
 pub mod DividedComponents
+mod EventNumbers
 pub mod EventReturns
 pub mod EventRows
 pub mod EventWeights
+mod EventsInPlace
+mod LastInPlace
 pub mod LastLetters
 pub mod LawfulEvents
 pub mod LeftEnds
 pub mod LetterChanges
+mod ListsSoFar
+mod MergedInPlace
 pub mod NameRows
 pub mod NamedLetters
 pub mod OutcomeUnique
+mod Places
+mod PowersOfTwo
+mod Prefixes
 pub mod RowEnds
 pub mod RowIntervals
+mod RowMoves
+mod RowsAround
 pub mod ShortenedComponents
+mod SplitInPlace
 pub mod SplitPlaces
 pub mod TakenAfter
+mod WonInPlace
+mod WonSteps
+mod WrittenLetters

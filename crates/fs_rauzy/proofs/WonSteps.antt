@@ -17,8 +17,8 @@ use Rattle.fs_rauzy.specs.Steps.{AtCurrent, IsStoppedBy}
 use Rattle.fs_rauzy.proofs.EventNumbers.{AreWonNumbers, won_numbers}
 use Rattle.fs_rauzy.proofs.EventsInPlace.{IsEventInPlace, event_in_place, event_at, passed_ok, passed_err, place_at, opened_at, lawful_at, last_at}
 use Rattle.fs_rauzy.proofs.LastInPlace.{AreLastInPlace, around_below, around_above, place_below, place_above}
-use Rattle.fs_rauzy.proofs.Pending2.{won_above_keeps_no_split, won_below_keeps_no_split}
 use Rattle.fs_rauzy.proofs.RowsAround.{whole_row}
+use Rattle.fs_rauzy.proofs.SplitPlaces.{won_above_no_split, won_below_no_split}
 use Rattle.fs_rauzy.proofs.WonInPlace.{won_above_letters, won_above_row, won_above_extent, won_above_component, won_above_makes, won_above_place, won_below_letters, won_below_row, won_below_extent, won_below_component, won_below_makes, won_below_place}
 
 -- the last place of a name in a row, as it is found
@@ -147,5 +147,5 @@ module _ {d : ℕ} (L : IsOrderedRing (quadratic d) (IsPositive d)) {letters : L
 pub won_searched : {d : ℕ} (L : IsOrderedRing (quadratic d) (IsPositive d)) {components : List Component} {event : Bool} {noted : Quadratic} {after : List Component} (searched : Bool)
     → AllByRecursion (IsLawful d) components → Makes d components (record { event = Won event; length = noted; components = after }) → IsSearched searched components → IsSearched searched after
 won_searched L false lawful made known = tt
-won_searched L true lawful (wins_above c after rest won) known = won_above_keeps_no_split L c after lawful.0 known won
-won_searched L true lawful (wins_below c after rest won) known = won_below_keeps_no_split L c after lawful.0 known won
+won_searched L true lawful (wins_above c after rest won) known = won_above_no_split L lawful.0 known won
+won_searched L true lawful (wins_below c after rest won) known = won_below_no_split L lawful.0 known won
