@@ -2,15 +2,19 @@ mod AlikeComponents
 mod ChosenEvents
 mod ClosedInPlace
 pub mod DividedComponents
+mod EventNumbers
 pub mod EventReturns
 pub mod EventRows
 pub mod EventWeights
+mod EventsInPlace
 mod ExchangeInPlace
+mod LastInPlace
 pub mod LastLetters
 pub mod LawfulEvents
 pub mod LeftEnds
 pub mod LetterChanges
 mod ListsSoFar
+mod MergedInPlace
 pub mod NameRows
 pub mod NamedLetters
 pub mod OpenedRows
@@ -22,7 +26,12 @@ mod Prefixes
 pub mod RowEnds
 pub mod RowIntervals
 mod RowMoves
+mod RowsAround
 mod SearchedRows
 pub mod ShortenedComponents
+mod SplitInPlace
 pub mod SplitPlaces
 pub mod TakenAfter
+mod WonInPlace
+mod WonSteps
+mod WrittenLetters
