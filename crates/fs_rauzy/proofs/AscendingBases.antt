@@ -52,7 +52,7 @@ module _ {d : ℕ} (L : IsOrderedRing (quadratic d) (IsPositive d)) where
   long c letter lawful h = All-member (λ (l : Letter). IsPositive d l.length) c.top letter lawful.lengths h
 
   shorter_end : (c after : Component) (l : Quadratic) → after.base ≡ c.base → after.total ≡ sub c.total l → IsPositive d l → AtMost (end_of after) (end_of c)
-  shorter_end c after l base total h = subst (λ y. AtMost y (end_of c)) (λ i. add (base (~ i)) (total (~ i))) (end_less L c.base c.total l h)
+  shorter_end c after l base total h = subst (λ y. AtMost y (end_of c)) (λ i. add ((sym base) i) ((sym total) i)) (end_less L c.base c.total l h)
 
   won_above_end : (c after : Component) → IsLawful d c → IsWonByTop d c after → AtMost (end_of after) (end_of c)
   won_above_end c after lawful w = shorter_end c after w.y.length w.base w.sum (long c w.y lawful w.last.there)

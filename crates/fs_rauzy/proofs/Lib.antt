@@ -1,6 +1,12 @@
 pub mod AscendingBases
+pub mod EventRows
 pub mod EventWeights
-pub mod Pending3
+pub mod LastLetters
+pub mod LawfulEvents
+pub mod LetterChanges
+pub mod OutcomeUnique
+pub mod RowEnds
 pub mod RunBounds
 pub mod RunSteps
 pub mod RunUnique
+pub mod SplitPlaces

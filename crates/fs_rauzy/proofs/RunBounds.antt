@@ -1,21 +1,24 @@
 -- The numbers of a run: they are in bounds, and each event lessens the steps left or the weight of the open components.
-use Rattle.std.proofs.Common.{◌≡◌, ◌⊎◌, ℕ, ◌+◌, ◌-◌, ◌*◌, ◌<◌, ◌≤◌, Bool, true, false, cond, Option, Some, None, IsSome, List, [], ◌∷◌, ◌++◌, length, refl, sym, ap, ◌∙◌, subst, inl, inr, arith}
+use Rattle.std.proofs.Common.{◌≡◌, ◌⊎◌, ℕ, ◌+◌, ◌-◌, ◌*◌, ◌<◌, ◌≤◌, Bool, true, false, cond, Option, Some, None, IsSome, List, [], ◌∷◌, ◌++◌, length, refl, sym, ap, ◌∙◌, subst, inl, inr, arith, length-append}
+use Rattle.std.proofs.lemmas.List.{length-map}
 use Rattle.fs_ring.specs.OrderedRing.{IsOrderedRing}
+use Rattle.fs_quadratic.specs.Radicand.{IsRadicand}
 use Rattle.fs_quadratic.specs.Ring as ring
 use Rattle.fs_quadratic.specs.Ring.{quadratic, IsPositive}
-use Rattle.fs_gluing.specs.Exchanges.{Component}
+use Rattle.fs_gluing.specs.Exchanges.{Letter, Component, names_of}
 use Rattle.fs_rauzy.specs.declared.events.Event.{Event}
 use Rattle.fs_rauzy.specs.declared.events.Event.TheVariants.{Won, Merged, Split, Closed}
 use Rattle.fs_rauzy.specs.declared.parts.Logged.{Logged}
 use Rattle.fs_rauzy.specs.declared.parts.Part.{Part}
 use Rattle.fs_rauzy.specs.Events.{Outcome, Makes}
-use Rattle.fs_rauzy.specs.Measures.{weight}
+use Rattle.fs_rauzy.specs.Measures.{weight, weight_taken}
 use Rattle.fs_rauzy.specs.Rule.{is_step}
 use Rattle.fs_rauzy.specs.Runs.{Point, Checkpoint, first_checkpoint, start_of, begun, won_on, is_numbered, event_number, Goes, Leads, no_event, event}
 use Rattle.fs_rauzy.specs.RunsInPlace.{CanGo}
 use Rattle.fs_rauzy.specs.States.{IsState, open_names}
 use Rattle.fs_rauzy.specs.Steps.{IsOpen}
-use Rattle.fs_rauzy.proofs.EventWeights.{made_weight, weight_of_names}
+use Rattle.fs_quadratic.proofs.Laws.{field_order}
+use Rattle.fs_rauzy.proofs.EventWeights.{event_weight}
 use Rattle.fs_rauzy.proofs.RunSteps.{WinsTo, Becomes, ClosesLoop, StepsTo, AfterEvent, goes_cases, after_open, closing, loop_makes, goes_makes}
 use Rattle.fs_rauzy.proofs.RunUnique.{after_steps, led_state}
 
@@ -55,7 +58,7 @@ pub record IsInBounds (most : ℕ) (p : Point) : Type 0 where
 
 first_saved : (components : List Component) → IsOpen components → IsSome (first_checkpoint components)
 first_saved [] h = absurd h
-first_saved (c ∷ rest) h = tt
+first_saved (c ∷ rest) h = refl
 
 begun_saved : (p q : Point) (o : Outcome) (parts : List Part) → q ≡ begun p o parts → (IsOpen q.components → IsSome q.saved) × (q.number ≤ q.steps)
 begun_saved p q o parts e =
@@ -63,11 +66,11 @@ begun_saved p q o parts e =
     subst P (sym e) (first_saved o.components, omega arith)
 
 kept_saved : (s : Option Checkpoint) (c : Checkpoint) → s ≡ Some c → IsSome s
-kept_saved s c e = subst IsSome (sym e) tt
+kept_saved s c e = subst IsSome (sym e) refl
 
 becomes_saved : (p q : Point) (o : Outcome) (c : Component) (same : Bool) (saved : Checkpoint) → p.saved ≡ Some saved → Becomes p o c same q → IsSome q.saved
 becomes_saved p q o c true saved before b = subst IsSome (sym (ap (λ (x : Point). x.saved) b)) (kept_saved p.saved saved before)
-becomes_saved p q o c false saved before (inl b) = subst IsSome (sym (ap (λ (x : Point). x.saved) b.1)) tt
+becomes_saved p q o c false saved before (inl b) = subst IsSome (sym (ap (λ (x : Point). x.saved) b.1)) refl
 becomes_saved p q o c false saved before (inr b) = subst IsSome (sym (ap (λ (x : Point). x.saved) b.1)) (kept_saved p.saved saved before)
 
 becomes_number : (p q : Point) (o : Outcome) (c : Component) (same : Bool) → Becomes p o c same q → (q.number ≡ p.number + 1) × (q.steps ≡ p.steps + 1)
@@ -96,10 +99,16 @@ one_more_event events after logged e =
     let few = at_most_one (is_numbered logged.event) in
     omega arith
 
-module _ (d most : ℕ) (p q : Point) (state : IsState (record { d = d; components = p.components })) where
+taken : (e : Event) → cond (is_step e) 0 1 ≤ weight_taken e
+taken (Won top) = omega arith
+taken (Merged found) = omega arith
+taken (Split k found) = omega arith
+taken Closed = omega arith
+
+module _ {d : ℕ} (L : IsOrderedRing (quadratic d) (IsPositive d)) (most : ℕ) (p q : Point) (state : IsState (record { d = d; components = p.components })) where
   -- the weight, with one less where the event is no step
   weight_after : (o : Outcome) → Makes d p.components o → q.components ≡ o.components → weight q.components + cond (is_step o.event) 0 1 ≤ weight p.components
-  weight_after o made components = let w : weight q.components ≡ weight o.components = ap weight components in let less = made_weight d p.components o state.lawful made in omega arith
+  weight_after o made components = let w : weight q.components ≡ weight o.components = ap weight components in let less = event_weight L state.lawful made in let part = taken o.event in omega arith
 
   goes_few : Goes d p q → event_number p.events + weight p.components ≤ p.steps + most → event_number q.events + weight q.components ≤ q.steps + most
   goes_few g few = elim (goes_cases d p q g) [
@@ -143,16 +152,28 @@ module _ (d most : ℕ) (p q : Point) (state : IsState (record { d = d; componen
 
 -- ---- along a run
 
-module _ {d : ℕ} (L : IsOrderedRing (quadratic d) (IsPositive d)) (components : List Component) (state : IsState (record { d = d; components = components })) where
+-- the weight is at most twice the letters
+weight_of_names : (components : List Component) → weight components ≤ 2 * length (open_names components)
+weight_of_names [] = omega arith
+weight_of_names (c ∷ components) =
+    let more = weight_of_names components in
+    let names = length-append (names_of c.top) (open_names components) in
+    let letters = length-map c.top (λ (letter : Letter). letter.name) in
+    omega arith
+
+module _ {d : ℕ} (radicand : IsRadicand d) (components : List Component) (state : IsState (record { d = d; components = components })) where
+  L : IsOrderedRing (quadratic d) (IsPositive d)
+  L = field_order radicand
+
   run_in_bounds : (p : Point) → Leads d (start_of components) p → IsInBounds (weight components) p
   run_in_bounds _ no_event = record { saved = first_saved components; numbered = omega arith; few = omega arith }
-  run_in_bounds p (event r _ before g) = goes_in_bounds d (weight components) r p (led_state L components r state before) g (run_in_bounds r before)
+  run_in_bounds p (event r _ before g) = goes_in_bounds L (weight components) r p (led_state L components r state before) g (run_in_bounds r before)
 
   -- where a run leads, and a component is open, it can go on
-  pub run_can_go : (n : ℕ) (p : Point) → Leads d (start_of components) p → IsOpen p.components → p.steps ≤ n → CanGo n p
+  pub run_can_go : (n : ℕ) (p : Point) → Leads d (start_of components) p → IsOpen p.components → p.steps ≤ n → CanGo d n p
   run_can_go n p leads is_open within =
       let b = run_in_bounds p leads in
       let few = b.few in
       let names = state.few in
       let most = weight_of_names components in
-      record { is_open = is_open; saved = b.saved is_open; within = within; numbered = b.numbered; few = omega arith }
+      record { radicand = radicand; state = led_state L components p state leads; is_open = is_open; saved = b.saved is_open; within = within; numbered = b.numbered; few = omega arith }

@@ -16,7 +16,7 @@ use Rattle.fs_rauzy.specs.Events.{Outcome, Makes}
 use Rattle.fs_rauzy.specs.Rule.{IsMade, is_step}
 use Rattle.fs_rauzy.specs.Runs.{Point, Checkpoint, IsSaved, part_of, begun, won_on, BeginsAnew, IsMadeAt, ComparesAt, Goes, closes_loop, closes_cylinder, begins_anew, finds_loop, wins, wins_and_saves}
 use Rattle.fs_rauzy.specs.States.{IsState}
-use Rattle.fs_rauzy.proofs.Pending3.{next_unique}
+use Rattle.fs_rauzy.proofs.OutcomeUnique.{next_unique}
 
 -- ---- comparisons
 
@@ -161,7 +161,7 @@ loop_unique p q r h k =
 module _ {d : ℕ} (L : IsOrderedRing (quadratic d) (IsPositive d)) (p : Point) (state : IsState (record { d = d; components = p.components })) where
   steps_unique : (q r : Point) → StepsTo d p q → StepsTo d p r → q ≡ r
   steps_unique q r h k =
-      let same : k.outcome ≡ h.outcome = next_unique L p.components state k.outcome h.outcome k.made.next h.made.next in
+      let same : k.outcome ≡ h.outcome = next_unique L state.lawful k.made.next h.made.next in
       after_unique d p h.outcome h.outcome.event q r h.after (subst (λ o. AfterEvent d p o o.event r) same k.after)
 
   -- a point goes on to one point

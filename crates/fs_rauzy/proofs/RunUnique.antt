@@ -18,7 +18,8 @@ use Rattle.fs_rauzy.specs.Runs as run
 use Rattle.fs_rauzy.specs.Runs.{Point, Checkpoint, start_of, won_on, event_number, ComparesAt, Goes, Leads, no_event, event, EndsRun, ReturnsRun}
 use Rattle.fs_rauzy.specs.RunsInPlace.{EndsAt, all_closed, budget_spent, event_stops, comparison_stops}
 use Rattle.fs_rauzy.specs.States.{IsState}
-use Rattle.fs_rauzy.proofs.Pending3.{made_state, next_unique, stops_unique, not_made_and_stopped}
+use Rattle.fs_rauzy.proofs.LawfulEvents.{event_keeps_state}
+use Rattle.fs_rauzy.proofs.OutcomeUnique.{next_unique, stops_unique, not_made_and_stopped}
 use Rattle.fs_rauzy.proofs.RunSteps.{WinsTo, ClosesAs, ClosesLoop, StepsTo, Becomes, AfterEvent, goes_cases, goes_unique, goes_makes, compared_unique}
 
 -- ---- ends of a run, and ends at a point
@@ -93,7 +94,7 @@ leads_state L p _ state no_event = state
 leads_state {d} L p q state (event r _ before g) =
     let made = goes_makes d r q g in
     let S : List Component → Type 0 = λ components. IsState (record { d = d; components = components }) in
-    subst S (sym made.2) (made_state L r.components (leads_state L p r state before) made.0 made.1)
+    subst S (sym made.2) (event_keeps_state L (leads_state L p r state before) made.1)
 
 -- where a run leads, the open components are a state
 pub led_state : {d : ℕ} → IsOrderedRing (quadratic d) (IsPositive d) → (components : List Component) (p : Point) → IsState (record { d = d; components = components }) → Leads d (start_of components) p
@@ -125,12 +126,12 @@ module _ {d : ℕ} (L : IsOrderedRing (quadratic d) (IsPositive d)) where
     -- the comparisons after two won ones agree
     compares_unique : (o u : Outcome) (c e : Component) (s t : Checkpoint) (x y : Result Bool Place) → ComparesAt d p o c s x → ComparesAt d p u e t y → x ≡ y
     compares_unique o u c e s t x y h k =
-        let same : u ≡ o = next_unique L p.components state u o k.made.made.next h.made.made.next in
+        let same : u ≡ o = next_unique L state.lawful k.made.made.next h.made.made.next in
         compared_unique d o p c e h.rest k.rest s t x y h.components (subst (λ (z : Outcome). z.components ≡ e ∷ k.rest) same k.components) h.saved_before k.saved_before h.compared k.compared
 
     spent_or_stopped : (n : ℕ) (o : Outcome) → p.steps ≡ n → IsNext d p.components o → is_step o.event ≡ true → (stop : Place) (stopped : StopsAt d p.components stop) → (is_step stopped.outcome.event ≡ true → p.steps < n) → ⊥
     spent_or_stopped n o all next step stop stopped room =
-        let same = next_unique L p.components state o stopped.outcome next stopped.next in
+        let same = next_unique L state.lawful next stopped.next in
         let r : p.steps < n = room (ap (λ (x : Outcome). is_step x.event) (sym same) ∙ step) in
         absurd (omega arith)
 
@@ -150,11 +151,11 @@ module _ {d : ℕ} (L : IsOrderedRing (quadratic d) (IsPositive d)) where
     ends_unique n _ _ (event_stops stop few going stopped room) (all_closed closed few_too) = absurd (no_next stopped.outcome closed stopped.next)
     ends_unique n _ _ (event_stops stop few going stopped room) (budget_spent o all going_too next step) = absurd (spent_or_stopped n o all next step stop stopped room)
     ends_unique n _ _ (event_stops stop few going stopped room) (event_stops other few_too going_too stopped_too room_too) =
-        ap (λ (s : Place). Err (Overflow (sites.Event (event_number p.events) s.0))) (stops_unique L p.components state stop other stopped stopped_too)
-    ends_unique n _ _ (event_stops stop few going stopped room) (comparison_stops o c saved other room_too k) = absurd (not_made_and_stopped L p.components state o stop k.made.made stopped)
+        ap (λ (s : Place). Err (Overflow (sites.Event (event_number p.events) s.0))) (stops_unique L state.lawful stopped stopped_too)
+    ends_unique n _ _ (event_stops stop few going stopped room) (comparison_stops o c saved other room_too k) = absurd (not_made_and_stopped L state.lawful k.made.made stopped)
     ends_unique n _ _ (comparison_stops o c saved stop room k) (all_closed closed few) = absurd (no_next o closed k.made.made.next)
     ends_unique n _ _ (comparison_stops o c saved stop room k) (budget_spent u all going next step) = absurd (omega arith)
-    ends_unique n _ _ (comparison_stops o c saved stop room k) (event_stops other few going stopped room_too) = absurd (not_made_and_stopped L p.components state o other k.made.made stopped)
+    ends_unique n _ _ (comparison_stops o c saved stop room k) (event_stops other few going stopped room_too) = absurd (not_made_and_stopped L state.lawful k.made.made stopped)
     ends_unique n _ _ (comparison_stops o c saved stop room k) (comparison_stops u e saved_too other room_too h) =
         let same : stop ≡ other = err_same stop other (compares_unique o u c e saved saved_too (Err stop) (Err other) k h) in
         ap (λ (s : Place). Err (Overflow (sites.Event (event_number p.events) s.0))) same
@@ -166,7 +167,7 @@ module _ {d : ℕ} (L : IsOrderedRing (quadratic d) (IsPositive d)) where
 
     steps_on : (n : ℕ) (o : Outcome) (q : Point) → p.steps ≡ n → IsNext d p.components o → is_step o.event ≡ true → StepsTo d p q → n < q.steps
     steps_on n o q all next step s =
-        let same : o ≡ s.outcome = next_unique L p.components state o s.outcome next s.made.next in
+        let same : o ≡ s.outcome = next_unique L state.lawful next s.made.next in
         let is : is_step s.outcome.event ≡ true = ap (λ (x : Outcome). is_step x.event) (sym same) ∙ step in
         let counts : q.steps ≡ cond (is_step s.outcome.event) (p.steps + 1) p.steps = after_steps d p s.outcome s.outcome.event q refl s.after in
         let more : q.steps ≡ p.steps + 1 = counts ∙ ap (λ b. cond b (p.steps + 1) p.steps) is in
@@ -174,7 +175,7 @@ module _ {d : ℕ} (L : IsOrderedRing (quadratic d) (IsPositive d)) where
 
     not_compared : (o : Outcome) (c : Component) (saved : Checkpoint) (stop : Place) (q : Point) → ComparesAt d p o c saved (Err stop) → StepsTo d p q → ⊥
     not_compared o c saved stop q k s =
-        let same : s.outcome ≡ o = next_unique L p.components state s.outcome o s.made.next k.made.made.next in
+        let same : s.outcome ≡ o = next_unique L state.lawful s.made.next k.made.made.next in
         let is : s.outcome.event ≡ Won k.top = ap (λ (x : Outcome). x.event) same ∙ k.event in
         let w : WinsTo d p s.outcome q = subst (λ e. AfterEvent d p s.outcome e q) is s.after in
         let components : o.components ≡ w.component ∷ w.rest = subst (λ (x : Outcome). x.components ≡ w.component ∷ w.rest) same w.components in
@@ -193,7 +194,7 @@ module _ {d : ℕ} (L : IsOrderedRing (quadratic d) (IsPositive d)) where
     ends_or_goes : (n : ℕ) (end : Result Run Stop) (q : Point) → EndsAt d n p end → Goes d p q → n < q.steps
     ends_or_goes n _ q (all_closed closed few) g = let made = goes_makes d p q g in absurd (closed_makes_none d p.components made.0 made.1 closed)
     ends_or_goes n _ q (budget_spent o all going next step) g = steps_on n o q all next step (by_step q going g)
-    ends_or_goes n _ q (event_stops stop few going stopped room) g = let s = by_step q going g in absurd (not_made_and_stopped L p.components state s.outcome stop s.made stopped)
+    ends_or_goes n _ q (event_stops stop few going stopped room) g = let s = by_step q going g in absurd (not_made_and_stopped L state.lawful s.made stopped)
     ends_or_goes n _ q (comparison_stops o c saved stop room k) g = absurd (not_compared o c saved stop q k (by_step q k.made.going g))
 
   -- ---- one end of a run
