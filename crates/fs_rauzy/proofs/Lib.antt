@@ -1,4 +1,5 @@
 pub mod AscendingBases
+pub mod EventNumbers
 pub mod EventRows
 pub mod EventWeights
 pub mod LastLetters
@@ -7,6 +8,8 @@ pub mod LetterChanges
 pub mod OutcomeUnique
 pub mod RowEnds
 pub mod RunBounds
+pub mod RunChanges
 pub mod RunSteps
 pub mod RunUnique
 pub mod SplitPlaces
+pub mod StepExists

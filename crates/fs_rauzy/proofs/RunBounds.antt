@@ -18,6 +18,7 @@ use Rattle.fs_rauzy.specs.RunsInPlace.{CanGo}
 use Rattle.fs_rauzy.specs.States.{IsState, open_names}
 use Rattle.fs_rauzy.specs.Steps.{IsOpen}
 use Rattle.fs_quadratic.proofs.Laws.{field_order}
+use Rattle.fs_rauzy.proofs.EventNumbers.{one_more_event}
 use Rattle.fs_rauzy.proofs.EventWeights.{event_weight}
 use Rattle.fs_rauzy.proofs.RunSteps.{WinsTo, Becomes, ClosesLoop, StepsTo, AfterEvent, goes_cases, after_open, closing, loop_makes, goes_makes}
 use Rattle.fs_rauzy.proofs.RunUnique.{after_steps, led_state}
@@ -38,15 +39,6 @@ after_events d p o (Won top) q h = becomes_events p o h.component h.same q h.bec
 after_events d p o (Merged found) q h = ap (λ (x : Point). x.events) h
 after_events d p o (Split k found) q h = ap (λ (x : Point). x.events) h
 after_events d p o Closed q h = ap (λ (x : Point). x.events) h.becomes
-
--- the number of events with one more
-pub event_number-append : (events : List Logged) (logged : Logged) → event_number (events ++ logged ∷ []) ≡ event_number events + cond (is_numbered logged.event) 1 0
-event_number-append [] logged = omega arith
-event_number-append (e ∷ events) logged = let more = event_number-append events logged in omega arith
-
-at_most_one : (b : Bool) → cond b 1 0 ≤ 1
-at_most_one true = omega arith
-at_most_one false = omega arith
 
 -- ---- bounds
 
@@ -92,12 +84,6 @@ counted : (b : Bool) (events events_after steps steps_after w w_after most : ℕ
     → events_after + w_after ≤ steps_after + most
 counted true events events_after steps steps_after w w_after most e s l h = omega arith
 counted false events events_after steps steps_after w w_after most e s l h = omega arith
-
-one_more_event : (events after : List Logged) (logged : Logged) → after ≡ events ++ logged ∷ [] → event_number after ≤ event_number events + 1
-one_more_event events after logged e =
-    let longer : event_number after ≡ event_number events + cond (is_numbered logged.event) 1 0 = ap event_number e ∙ event_number-append events logged in
-    let few = at_most_one (is_numbered logged.event) in
-    omega arith
 
 taken : (e : Event) → cond (is_step e) 0 1 ≤ weight_taken e
 taken (Won top) = omega arith

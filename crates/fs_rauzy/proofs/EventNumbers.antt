@@ -1,0 +1,20 @@
+-- The number of events with numbers in a list with one more.
+use Rattle.std.proofs.Common.{◌≡◌, ℕ, ◌+◌, ◌≤◌, Bool, true, false, cond, List, [], ◌∷◌, ◌++◌, ap, ◌∙◌, arith}
+use Rattle.fs_rauzy.specs.declared.parts.Logged.{Logged}
+use Rattle.fs_rauzy.specs.Runs.{is_numbered, event_number}
+
+-- one more event counts where it has a number
+pub event_number-append : (events : List Logged) (logged : Logged) → event_number (events ++ logged ∷ []) ≡ event_number events + cond (is_numbered logged.event) 1 0
+event_number-append [] logged = omega arith
+event_number-append (e ∷ events) logged = let more = event_number-append events logged in omega arith
+
+-- at most one
+pub one_more_event : (events after : List Logged) (logged : Logged) → after ≡ events ++ logged ∷ [] → event_number after ≤ event_number events + 1
+one_more_event events after logged e =
+    let longer : event_number after ≡ event_number events + cond (is_numbered logged.event) 1 0 = ap event_number e ∙ event_number-append events logged in
+    let few = at_most_one (is_numbered logged.event) in
+    omega arith
+  where
+    at_most_one : (b : Bool) → cond b 1 0 ≤ 1
+    at_most_one true = omega arith
+    at_most_one false = omega arith
