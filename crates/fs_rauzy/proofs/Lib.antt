@@ -8,8 +8,10 @@ pub mod LetterChanges
 pub mod OutcomeUnique
 pub mod RowEnds
 pub mod RunBounds
+pub mod RunCalls
 pub mod RunChanges
 pub mod RunSteps
 pub mod RunUnique
+pub mod RunsUnderWay
 pub mod SplitPlaces
 pub mod StepExists

@@ -181,7 +181,7 @@ impl Progress {
         requires choice { IsChoice self.old.point.components Choice.Compare }
         requires saved { IsSome self.old.point.saved }
         requires few { event_number self.old.point.events + 1 < 2 ^ 32 }
-        requires steps { self.old.point.steps + 1 < 2 ^ 32 }
+        requires steps { self.old.point.steps + 2 < 2 ^ 32 }
         requires number { self.old.point.number ≤ self.old.point.steps }
         ensures goes { OnOk result (Goes self.old.d self.old.point self.new.point) }
         ensures steps { OnOk result (self.new.point.steps ≡ self.old.point.steps + 1) }
@@ -235,9 +235,10 @@ impl Progress {
         ensures { OnOk result (self.new ≡ record self.old { point = noted logged self.old.point }) }
     {
         self.events.push(logged)?;
-        if !matches!(logged.event, Event::Closed) {
-            self.numbered += 1;
+        if let Event::Closed = logged.event {
+            return Ok(());
         }
+        self.numbered += 1;
         if let Some(found) = logged.event.found() {
             self.found.push(found)?;
         }
