@@ -1,5 +1,5 @@
 pub mod AscendingBases
-pub mod EventNumbers
+pub mod NumberedEvents
 pub mod EventRows
 pub mod EventWeights
 pub mod LastLetters
