@@ -1,4 +1,5 @@
 mod AlikeComponents
+pub mod AscendingBases
 mod ChosenEvents
 mod ClosedInPlace
 pub mod DividedComponents
@@ -17,6 +18,7 @@ mod ListsSoFar
 mod MergedInPlace
 pub mod NameRows
 pub mod NamedLetters
+pub mod NumberedEvents
 pub mod OpenedRows
 pub mod OutcomeUnique
 mod Pending
@@ -27,10 +29,17 @@ pub mod RowEnds
 pub mod RowIntervals
 mod RowMoves
 mod RowsAround
+pub mod RunBounds
+pub mod RunCalls
+pub mod RunChanges
+pub mod RunSteps
+pub mod RunUnique
+pub mod RunsUnderWay
 mod SearchedRows
 pub mod ShortenedComponents
 mod SplitInPlace
 pub mod SplitPlaces
+pub mod StepExists
 pub mod TakenAfter
 mod WonInPlace
 mod WonSteps
