@@ -1,7 +1,9 @@
 pub mod Comparisons
+pub mod Cylinders
 pub mod Events
 pub mod FirstReturns
 pub mod Loops
+pub mod Measures
 pub mod Rooms
 pub mod Rule
 pub mod Runs
@@ -9,3 +11,4 @@ pub mod SplitsInPlace
 pub mod States
 pub mod StatesInPlace
 pub mod Steps
+pub mod Towers
