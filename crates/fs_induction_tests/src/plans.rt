@@ -59,6 +59,39 @@ pub const L_THREE: Plan = Plan {
     ],
 };
 
+// Three unit squares, one above the other, each glued to itself on the right.
+pub const STACK: Plan = Plan {
+    d: 2,
+    polygons: &[
+        &[
+            ((1, 0), (0, 0)),
+            ((0, 0), (1, 0)),
+            ((-1, 0), (0, 0)),
+            ((0, 0), (-1, 0)),
+        ],
+        &[
+            ((1, 0), (0, 0)),
+            ((0, 0), (1, 0)),
+            ((-1, 0), (0, 0)),
+            ((0, 0), (-1, 0)),
+        ],
+        &[
+            ((1, 0), (0, 0)),
+            ((0, 0), (1, 0)),
+            ((-1, 0), (0, 0)),
+            ((0, 0), (-1, 0)),
+        ],
+    ],
+    glues: &[
+        ((0, 1), (0, 3)),
+        ((1, 1), (1, 3)),
+        ((2, 1), (2, 3)),
+        ((0, 2), (1, 0)),
+        ((1, 2), (2, 0)),
+        ((2, 2), (0, 0)),
+    ],
+};
+
 // Two tori glued along a slit: hexagons with two horizontal sides each.
 pub const SLIT: Plan = Plan {
     d: 2,

@@ -2,7 +2,7 @@
 
 use crate::common::ToldEvent::{Closed, Merged, Split, Won};
 use crate::common::{Told, ToldPart, expect_runs};
-use crate::plans::{GOLDEN_SQUARE, L_THREE, ROOT_HEXAGON, SLIT, SQUARE};
+use crate::plans::{GOLDEN_SQUARE, L_THREE, ROOT_HEXAGON, SLIT, SQUARE, STACK};
 use std::test::Fail;
 
 // On the unit square: along a side, along diagonals, and along (1, √2), where the run closes as a loop from state 3 to 7.
@@ -82,8 +82,8 @@ pub static SQUARE_RUNS: [Told; 5] = [
     },
 ];
 
-// On the L of three squares: splits at the beginning, after merges, and before other steps, with connections and without.
-pub static L_RUNS: [Told; 4] = [
+// On the L of three squares: splits at the beginning, after merges, and before other steps, with connections and without. On a stack of squares, which can be split in two places.
+pub static L_RUNS: [Told; 5] = [
     Told {
         plan: &L_THREE,
         v: ((1, 0), (0, 0)),
@@ -185,6 +185,32 @@ pub static L_RUNS: [Told; 4] = [
                 base: (1, 0),
                 width: (1, 0),
                 letters: &[((1, 0), ((6, 0), (4, 0)))],
+                looped: None,
+            },
+        ],
+    },
+    Told {
+        plan: &STACK,
+        v: ((1, 0), (0, 0)),
+        steps: 0,
+        events: &[Split(2, None), Closed, Split(1, None), Closed, Closed],
+        parts: &[
+            ToldPart {
+                base: (0, 0),
+                width: (1, 0),
+                letters: &[((1, 0), ((1, 0), (0, 0)))],
+                looped: None,
+            },
+            ToldPart {
+                base: (1, 0),
+                width: (1, 0),
+                letters: &[((1, 0), ((1, 0), (0, 0)))],
+                looped: None,
+            },
+            ToldPart {
+                base: (2, 0),
+                width: (1, 0),
+                letters: &[((1, 0), ((1, 0), (0, 0)))],
                 looped: None,
             },
         ],
