@@ -16,6 +16,7 @@ pub mod LeftEnds
 pub mod LetterChanges
 mod ListsSoFar
 mod MergedInPlace
+mod MergedSteps
 pub mod NameRows
 pub mod NamedLetters
 pub mod NumberedEvents

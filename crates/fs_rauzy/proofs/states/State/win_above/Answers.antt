@@ -1,5 +1,5 @@
 -- The lists before and after the comparison, and what is computed of them.
-use Rattle.std.proofs.Common.{rules, ◌≡◌, ◌≢◌, ◌<◌, ◌≤◌, ◌∷◌, ◌++◌, ℕ, true, List, IfErr, slice_set, slice_index_or, Ok, Err, length, take, drop, get_or, sym, ap, ◌∙◌, subst, refl}
+use Rattle.std.proofs.Common.{rules, ◌≡◌, ◌≢◌, ◌<◌, ◌≤◌, ◌∷◌, ◌++◌, ℕ, ◌+◌, true, List, IfErr, slice_set, slice_index_or, Ok, Err, length, take, drop, get_or, sym, ap, ◌∙◌, subst, refl}
 use Rattle.std.proofs.lemmas.List.{get_or_default}
 use Rattle.fs_lists.specs.Members.{IsIn}
 use Rattle.fs_lists.proofs.Results.{at_exit}
@@ -66,6 +66,13 @@ write_won_above-requires-clause-winner c =
 pub write_won_above-requires-clause-loser : goal.write_won_above-requires-clause-loser
 write_won_above-requires-clause-loser c =
     subst (λ (ls : List Letter). c.args.y < length ls) (sym c.deref_mut.ensures.value) (last (goal.at.write_won_above-requires-clause-loser c).After-last-extent).y_inside
+
+pub move_last_behind-requires : goal.move_last_behind-requires
+move_last_behind-requires c =
+    subst (λ (row : List ℕ). c.find_name-place.result + 1 < length row) (sym c.deref_mut-2.ensures.value)
+    (won_above_place_within (field_order c.self.inside.field.radicand) c.last-extent.ensures.1 c.self.invariant.1 c.self.invariant.0 c.args.x c.args.y
+    (last (goal.at.move_last_behind-requires c).After-last-extent) c.find_name-place.result
+    (subst (λ (row : List ℕ). IsFoundAt row c.args.x c.find_name-place.result) c.deref.ensures.value c.find_name-place.ensures))
 
 -- the letters are written whole
 whole : (c : After-set_last) → take c.self.inside.letters.len (c.write_won_above.new.letters ++ drop (length c.write_won_above.new.letters) c.self.inside.letters.items) ≡ c.write_won_above.new.letters
