@@ -1,16 +1,47 @@
+mod AlikeComponents
+pub mod AscendingBases
+mod ChosenEvents
+mod ClosedInPlace
 pub mod DividedComponents
+mod EventNumbers
 pub mod EventReturns
 pub mod EventRows
 pub mod EventWeights
+mod EventsInPlace
+mod ExchangeInPlace
+mod LastInPlace
 pub mod LastLetters
 pub mod LawfulEvents
 pub mod LeftEnds
 pub mod LetterChanges
+mod ListsSoFar
+mod MergedInPlace
+mod MergedSteps
 pub mod NameRows
 pub mod NamedLetters
+pub mod NumberedEvents
+pub mod OpenedRows
 pub mod OutcomeUnique
+mod Pending
+mod Places
+mod PowersOfTwo
+mod Prefixes
 pub mod RowEnds
 pub mod RowIntervals
+mod RowMoves
+mod RowsAround
+pub mod RunBounds
+pub mod RunCalls
+pub mod RunChanges
+pub mod RunSteps
+pub mod RunUnique
+pub mod RunsUnderWay
+mod SearchedRows
 pub mod ShortenedComponents
+mod SplitInPlace
 pub mod SplitPlaces
+pub mod StepExists
 pub mod TakenAfter
+mod WonInPlace
+mod WonSteps
+mod WrittenLetters

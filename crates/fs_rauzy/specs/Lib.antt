@@ -7,6 +7,7 @@ pub mod Measures
 pub mod Rooms
 pub mod Rule
 pub mod Runs
+pub mod RunsInPlace
 pub mod SplitsInPlace
 pub mod States
 pub mod StatesInPlace

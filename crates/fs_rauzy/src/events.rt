@@ -34,8 +34,9 @@ pub enum Event {
 }
 
 impl Event {
-    ghost use Rattle.std.specs.Prelude.{◌≡◌};
+    ghost use Rattle.std.specs.Prelude.{◌≡◌, option_to_list};
     ghost use Rattle.fs_rauzy.specs.Rule.{is_step};
+    ghost use Rattle.fs_rauzy.specs.Runs.{found_by};
 
     /// Whether it is a step of the induction: a won comparison or a merge.
     pub fn is_step(&self) -> bool
@@ -45,7 +46,9 @@ impl Event {
     }
 
     /// The connection that it finds.
-    pub fn found(&self) -> Option<Found> {
+    pub fn found(&self) -> Option<Found>
+        ensures { option_to_list result ≡ found_by self.now }
+    {
         match self {
             Event::Merged(found) => *found,
             Event::Split { found, .. } => *found,

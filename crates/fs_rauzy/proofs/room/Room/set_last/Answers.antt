@@ -1,0 +1,8 @@
+-- The last item is another one.
+use Rattle.std.proofs.Common.{◌≡◌, ◌+◌, ◌-◌, length, ap, ◌∙◌, arith}
+use Rattle.fs_rauzy.proofs.ListsSoFar.{reverse-set_last}
+use Rattle.fs_rauzy.proofs.room.Room.set_last.Goals as goal
+
+pub returns-clause-items : goal.returns-clause-items
+returns-clause-items g c = λ last rest e.
+    reverse-set_last c.self.inside.items.items (c.len-last.result - 1) c.args.item last rest ? (ap (λ r. r.items) c.self.view_is ∙ e)
