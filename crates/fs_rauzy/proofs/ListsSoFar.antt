@@ -1,5 +1,5 @@
 -- Lists that a loop makes item by item: one item more.
-use Rattle.std.proofs.Common.{◌≡◌, ℕ, zero, suc, ◌+◌, ◌-◌, ◌<◌, Some, List, [], ◌∷◌, ◌++◌, length, take, map, reverse, set, get_or, refl, sym, ap, ◌∙◌, arith, zero-add, add-one}
+use Rattle.std.proofs.Common.{◌≡◌, ℕ, zero, suc, ◌+◌, ◌-◌, ◌<◌, Some, List, [], ◌∷◌, ◌++◌, length, take, reverse, set, get_or, sym, ap, ◌∙◌, arith, zero-add, add-one}
 use Rattle.std.proofs.lemmas.List.{take_more, get_or-map, length-append, reverse-append, reverse-reverse, set_at}
 use Rattle.std.proofs.lemmas.List.FromFn.{get_or-range_with_len}
 use Rattle.std.proofs.lemmas.Option.{slice_get-get_or, slice_get_within, get_or_from_slice_get}

@@ -1,5 +1,5 @@
 -- The last item is another one.
-use Rattle.std.proofs.Common.{◌≡◌, ◌+◌, ◌-◌, length, ap, ◌∙◌, arith}
+use Rattle.std.proofs.Common.{◌-◌, ap, ◌∙◌, arith}
 use Rattle.fs_rauzy.proofs.ListsSoFar.{reverse-set_last}
 use Rattle.fs_rauzy.proofs.room.Room.set_last.Goals as goal
 
