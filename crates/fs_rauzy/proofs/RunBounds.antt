@@ -101,13 +101,13 @@ module _ {d : ℕ} (L : IsOrderedRing (quadratic d) (IsPositive d)) (most : ℕ)
     | inl h ↦
         let o = closing h.1.rest in
         counted false (event_number p.events) (event_number q.events) p.steps q.steps (weight p.components) (weight q.components) most
-          (one_more_event p.events q.events (logged_of o) (ap (λ (x : Point). x.events) h.1.becomes)) (ap (λ (x : Point). x.steps) h.1.becomes)
-          (weight_after o (loop_makes d p q h.1) (ap (λ (x : Point). x.components) h.1.becomes)) few
+        (one_more_event p.events q.events (logged_of o) (ap (λ (x : Point). x.events) h.1.becomes)) (ap (λ (x : Point). x.steps) h.1.becomes)
+        (weight_after o (loop_makes d p q h.1) (ap (λ (x : Point). x.components) h.1.becomes)) few
     | inr h ↦
         let o = h.1.outcome in
         counted (is_step o.event) (event_number p.events) (event_number q.events) p.steps q.steps (weight p.components) (weight q.components) most
-          (one_more_event p.events q.events (logged_of o) (after_events d p o o.event q h.1.after)) (after_steps d p o o.event q refl h.1.after)
-          (weight_after o h.1.made.next.made (after_open d p o o.event q h.1.after)) few
+        (one_more_event p.events q.events (logged_of o) (after_events d p o o.event q h.1.after)) (after_steps d p o o.event q refl h.1.after)
+        (weight_after o h.1.made.next.made (after_open d p o o.event q h.1.after)) few
   ]
 
   goes_saved : p.number ≤ p.steps → Goes d p q → (IsOpen q.components → IsSome q.saved) × (q.number ≤ q.steps)
@@ -129,11 +129,11 @@ module _ {d : ℕ} (L : IsOrderedRing (quadratic d) (IsPositive d)) (most : ℕ)
     | inl h ↦
         let o = closing h.1.rest in
         smaller false n p.steps q.steps (weight p.components) (weight q.components) within (ap (λ (x : Point). x.steps) h.1.becomes)
-          (weight_after o (loop_makes d p q h.1) (ap (λ (x : Point). x.components) h.1.becomes))
+        (weight_after o (loop_makes d p q h.1) (ap (λ (x : Point). x.components) h.1.becomes))
     | inr h ↦
         let o = h.1.outcome in
         smaller (is_step o.event) n p.steps q.steps (weight p.components) (weight q.components) within (after_steps d p o o.event q refl h.1.after)
-          (weight_after o h.1.made.next.made (after_open d p o o.event q h.1.after))
+        (weight_after o h.1.made.next.made (after_open d p o o.event q h.1.after))
   ]
 
 -- ---- along a run

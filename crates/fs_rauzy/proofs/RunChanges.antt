@@ -164,7 +164,7 @@ pub split_stops : (d k : ℕ) (p : Point) (stop : Place) → p.looped ≡ false 
     → StopsRun d n p (Overflow (sites.Event (event_number p.events) stop.0))
 split_stops d k p stop going choice s n few =
     event_stops stop few going (record { outcome = s.outcome; next = record { made = s.made; by_rule = split_by_rule k p.components s.outcome.event choice s.kind }; overflows = s.overflows })
-    (λ step. absurd (no_step (ap is_step s.kind.1 ) step))
+    (λ step. absurd (no_step (ap is_step s.kind.1) step))
   where
     no_step : {b : Bool} → b ≡ false → b ≡ true → ⊥
     no_step e f = absurd cc

@@ -106,17 +106,59 @@ goes_cases d p _ (closes_cylinder o c rest made event components) =
     inr (made.going, record { outcome = o; made = made.made; after = subst (λ x. AfterEvent d p o x (begun p o (part_of c Cylinder ∷ p.parts))) (sym event) closes })
 goes_cases d p _ (begins_anew o made anew) = inr (made.going, record { outcome = o; made = made.made; after = begins d p o o.event anew })
 goes_cases d p _ (finds_loop o c saved k) =
-    inr (k.made.going, record { outcome = o; made = k.made.made; after = after_won d p o k.top _ k.event (record {
-      component = c; rest = k.rest; components = k.components; saved = saved; saved_before = k.saved_before; same = true; compared = k.compared; becomes = refl;
-    }) })
+    inr (
+      k.made.going,
+      record {
+        outcome = o;
+        made = k.made.made;
+        after = after_won d p o k.top _ k.event (record {
+          component = c;
+          rest = k.rest;
+          components = k.components;
+          saved = saved;
+          saved_before = k.saved_before;
+          same = true;
+          compared = k.compared;
+          becomes = refl;
+        });
+      },
+    )
 goes_cases d p _ (wins o c saved k not_saved) =
-    inr (k.made.going, record { outcome = o; made = k.made.made; after = after_won d p o k.top _ k.event (record {
-      component = c; rest = k.rest; components = k.components; saved = saved; saved_before = k.saved_before; same = false; compared = k.compared; becomes = inr (not_saved, refl);
-    }) })
+    inr (
+      k.made.going,
+      record {
+        outcome = o;
+        made = k.made.made;
+        after = after_won d p o k.top _ k.event (record {
+          component = c;
+          rest = k.rest;
+          components = k.components;
+          saved = saved;
+          saved_before = k.saved_before;
+          same = false;
+          compared = k.compared;
+          becomes = inr (not_saved, refl);
+        });
+      },
+    )
 goes_cases d p _ (wins_and_saves o c saved k is_saved) =
-    inr (k.made.going, record { outcome = o; made = k.made.made; after = after_won d p o k.top _ k.event (record {
-      component = c; rest = k.rest; components = k.components; saved = saved; saved_before = k.saved_before; same = false; compared = k.compared; becomes = inl (is_saved, refl);
-    }) })
+    inr (
+      k.made.going,
+      record {
+        outcome = o;
+        made = k.made.made;
+        after = after_won d p o k.top _ k.event (record {
+          component = c;
+          rest = k.rest;
+          components = k.components;
+          saved = saved;
+          saved_before = k.saved_before;
+          same = false;
+          compared = k.compared;
+          becomes = inl (is_saved, refl);
+        });
+      },
+    )
 
 -- ---- one next point
 

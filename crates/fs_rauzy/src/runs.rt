@@ -72,8 +72,19 @@ impl Model for Progress {
 
     ghost Value = { ProgressValue };
 
-    ghost view = { λ x. record { d = x.state.d; point = record { components = x.state.components; number = x.number; saved = checkpoint_in x.saved; looped = x.looped;
-        steps = x.steps; events = x.events.items; parts = reverse x.parts.items; found = x.found.items } } };
+    ghost view = { λ x. record {
+      d = x.state.d;
+      point = record {
+        components = x.state.components;
+        number = x.number;
+        saved = checkpoint_in x.saved;
+        looped = x.looped;
+        steps = x.steps;
+        events = x.events.items;
+        parts = reverse x.parts.items;
+        found = x.found.items;
+      };
+    } };
 
     ghost invariant = { λ x. x.numbered ≡ event_number x.events.items };
 }
