@@ -14,3 +14,4 @@ pub mod RowIntervals
 pub mod ShortenedComponents
 pub mod SplitPlaces
 pub mod TakenAfter
+pub mod TowersKept
