@@ -14,4 +14,5 @@ pub mod RowIntervals
 pub mod ShortenedComponents
 pub mod SplitPlaces
 pub mod TakenAfter
+pub mod TouchedKept
 pub mod TowersKept

@@ -24,7 +24,7 @@ use Rattle.fs_iet.proofs.ShiftedIntervals.{moved}
 use Rattle.fs_iet.proofs.SideMeasures.{surface_order}
 use Rattle.fs_iet.proofs.TakenPositions.{takes_within, takes_by_one_letter, takes_left_end, takes_held}
 use Rattle.fs_rauzy.specs.Events.{Outcome, Makes, splits, closes, wins_above, wins_below, merges}
-use Rattle.fs_rauzy.specs.FirstReturns.{GivesReturns}
+use Rattle.fs_rauzy.specs.FirstReturns.{GivesReturns, AllGiveReturns}
 use Rattle.fs_rauzy.specs.Towers.{IsTower, HasTowers}
 use Rattle.fs_rauzy.proofs.DividedComponents.{divided_by_split, left_stays, right_stays, taken_by_left, taken_by_right}
 use Rattle.fs_rauzy.proofs.EventReturns.{exchange_returns, exchange_gives_returns}
@@ -55,6 +55,11 @@ module _ (s : GluedPolygons) (v : PlaneVector) where
     to_total = h.to_total;
     returns = λ letter y z t. let k = h.tower letter t.there in (k.0, k.1.returns y z t);
   }
+
+  -- and so do all components that have towers
+  pub all_returns_of_towers : (components : List Component) → AllByRecursion (HasTowers s v) components → AllGiveReturns s v components
+  all_returns_of_towers [] h = tt
+  all_returns_of_towers (c ∷ rest) h = (returns_of_towers h.0, all_returns_of_towers rest h.1)
 
 module _ (s : GluedPolygons) (v : PlaneVector) (surface : IsTranslationSurface s) (some : v ≢ vector_zero) where
   abbrev L : IsOrderedRing (quadratic s.d) (IsPositive s.d)
