@@ -1,3 +1,4 @@
+pub mod BasesMet
 pub mod DividedComponents
 pub mod EventReturns
 pub mod EventRows
