@@ -1,4 +1,6 @@
+pub mod BasesKept
 pub mod BasesMet
+pub mod DividedBases
 pub mod DividedComponents
 pub mod EventReturns
 pub mod EventRows

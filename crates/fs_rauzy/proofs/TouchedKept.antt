@@ -164,7 +164,7 @@ module _ (s : GluedPolygons) (v : PlaneVector) (surface : IsTranslationSurface s
       let on_right : IsTouched s v right
       = touched_of_stays touched (right_stays L lawful lawful_left lawful_right e) (subst IsTouchedAt (sym (end_together L lawful lawful_left lawful_right e)) touched.right) in (
         touched_of_stays touched (left_stays L lawful lawful_left lawful_right e)
-        (inr (inl (subst (MeetsOutMark s v) (first.2 ∙ sym (meet L lawful lawful_left lawful_right e)) (on_right.top first.0 first.1)))),
+            (inr (inl (subst (MeetsOutMark s v) (first.2 ∙ sym (meet L lawful lawful_left lawful_right e)) (on_right.top first.0 first.1)))),
         on_right,
       )
 
