@@ -1,4 +1,4 @@
--- Each event keeps that the flow from each position meets exactly one base: of an open component, or of one that has closed.
+-- Each event keeps that the flow from each position meets exactly one base: of an open component, or of one that has closed. A library for crates to come.
 use Rattle.std.proofs.Common.{◌≡◌, ◌≢◌, ℕ, List, [], ◌∷◌, ◌++◌, map, refl, sym, ◌∙◌, subst, inl, inr}
 use Rattle.std.specs.List.{AllByRecursion}
 use Rattle.std.proofs.lemmas.List.Sorted.{IsPermutation-middle, IsPermutation-sym}

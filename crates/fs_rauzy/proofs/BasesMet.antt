@@ -1,4 +1,4 @@
--- The flow from each position meets exactly one base, of the exchange of a direction and after each event.
+-- The flow from each position meets exactly one base: of the exchange of a direction, and after a won comparison or a merge. A library for crates to come.
 use Rattle.std.proofs.Common.{◌≡◌, ◌≢◌, ◌⊎◌, ◌↔◌, ℕ, ◌+◌, List, [], ◌∷◌, refl, sym, ap, ◌∙◌, subst, inl, inr}
 use Rattle.fs_lists.specs.Members.{IsIn, IsDistinct}
 use Rattle.fs_ring.specs.OrderedRing.{IsOrderedRing, IsAtMost}

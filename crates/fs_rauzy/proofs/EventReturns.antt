@@ -82,7 +82,7 @@ module _ (s : GluedPolygons) (v : PlaneVector) (surface : IsTranslationSurface s
     not_before = λ i u g p q o inside. absurd (omega arith);
   }
 
-  -- it gives first returns
+  -- the exchange of a surface and a direction gives first returns: each is one crossing
   pub exchange_gives_returns : {d : ℕ} {c : Component} → s.d ≡ d → IsExchange s v c → IsLawful d c → GivesReturns s v c
   exchange_gives_returns {d} {c} same exchange lawful = record {
     from_zero = order.at_most_of_eq (surface_order s surface) nil c.base (sym exchange.base);

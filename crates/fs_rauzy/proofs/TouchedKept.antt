@@ -1,4 +1,4 @@
--- The flow from the left ends of the exchange of a direction meets vertices and comes from vertices, and each event keeps that.
+-- The flow from the left ends of the exchange of a direction meets vertices and comes from vertices, and each event keeps that. A library for crates to come.
 use Rattle.std.proofs.Common.{◌≡◌, ◌≢◌, ◌⊎◌, ℕ, ◌+◌, ◌<◌, List, [], ◌∷◌, length, refl, sym, ap, ◌∙◌, subst, inl, inr, arith}
 use Rattle.std.specs.List.{AllByRecursion}
 use Rattle.fs_lists.specs.Members.{IsIn}
