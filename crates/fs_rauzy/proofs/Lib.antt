@@ -1,7 +1,10 @@
 mod AlikeComponents
 pub mod AscendingBases
+pub mod BasesKept
+pub mod BasesMet
 mod ChosenEvents
 mod ClosedInPlace
+pub mod DividedBases
 pub mod DividedComponents
 mod EventNumbers
 pub mod EventReturns
@@ -42,6 +45,8 @@ mod SplitInPlace
 pub mod SplitPlaces
 pub mod StepExists
 pub mod TakenAfter
+pub mod TouchedKept
+pub mod TowersKept
 mod WonInPlace
 mod WonSteps
 mod WrittenLetters
