@@ -28,6 +28,8 @@ impl Model for PartMeasures {
     ghost Value = { measures.PartMeasures };
 
     ghost view = { λ m. record { holonomy_square = m.holonomy_square; height_square = m.height_square; area = m.area } };
+
+    ghost inverse = { λ m. record { holonomy_square = m.holonomy_square; height_square = m.height_square; area = m.area } };
 }
 
 // Those of a cylinder with this width and this return vector.

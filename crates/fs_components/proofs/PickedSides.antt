@@ -1,0 +1,64 @@
+-- The sides along a direction are picked one after another, and in one way.
+use Rattle.std.proofs.Common.{◌≡◌, List, [], ◌∷◌, ◌++◌, map, refl, sym, ap, ◌∙◌, append_assoc}
+use Rattle.std.proofs.lemmas.List.{map-append}
+use Rattle.fs_ring.specs.Direction.{IsAlong}
+use Rattle.fs_quadratic.specs.Ring.{quadratic, IsPositive}
+use Rattle.fs_plane.specs.declared.corners.Corner.{Corner}
+use Rattle.fs_plane.specs.Vector.{PlaneVector}
+use Rattle.fs_gluing.specs.Polygons.{all_sides}
+use Rattle.fs_gluing.specs.Surface.{GluedPolygons}
+use Rattle.fs_gluing.specs.SurfaceSides.{vector_of}
+use Rattle.fs_rauzy.specs.declared.events.Found.{Found}
+use Rattle.fs_components.specs.Connections.{ArePicked, none, picks, skips, side_connection, AreConnections}
+use Rattle.fs_components.specs.Gathering.{AreSidesAlong}
+
+module _ {X : Type 0} {P : X → Type 0} where
+  -- one item more, which is picked
+  picked_more : (xs ys : List X) (x : X) → P x → ArePicked P xs ys → ArePicked P (xs ++ x ∷ []) (ys ++ x ∷ [])
+  picked_more _ _ x p none = picks x [] [] p none
+  picked_more _ _ x p (picks y xs ys q rest) = picks y (xs ++ x ∷ []) (ys ++ x ∷ []) q (picked_more xs ys x p rest)
+  picked_more _ _ x p (skips y xs ys q rest) = skips y (xs ++ x ∷ []) (ys ++ x ∷ []) q (picked_more xs ys x p rest)
+
+  -- one that isn't
+  skipped_more : (xs ys : List X) (x : X) → ¬ P x → ArePicked P xs ys → ArePicked P (xs ++ x ∷ []) ys
+  skipped_more _ _ x p none = skips x [] [] p none
+  skipped_more _ _ x p (picks y xs ys q rest) = picks y (xs ++ x ∷ []) ys q (skipped_more xs ys x p rest)
+  skipped_more _ _ x p (skips y xs ys q rest) = skips y (xs ++ x ∷ []) ys q (skipped_more xs ys x p rest)
+
+  -- the picked items are determined
+  pub picked_unique : (xs ys zs : List X) → ArePicked P xs ys → ArePicked P xs zs → ys ≡ zs
+  picked_unique _ _ _ none none = refl
+  picked_unique _ _ _ (picks x xs ys p rest) (picks x xs zs q others) = ap (λ more. x ∷ more) (picked_unique xs ys zs rest others)
+  picked_unique _ _ _ (picks x xs ys p rest) (skips x xs zs q others) = absurd (q p)
+  picked_unique _ _ _ (skips x xs ys p rest) (picks x xs zs q others) = absurd (p q)
+  picked_unique _ _ _ (skips x xs ys p rest) (skips x xs zs q others) = picked_unique xs ys zs rest others
+
+module _ (s : GluedPolygons) (v : PlaneVector) where
+  abbrev Along : Corner → Type 0
+  Along e = IsAlong (quadratic s.d) (IsPositive s.d) v (vector_of s.polygons e)
+
+  -- no side
+  pub no_sides : AreSidesAlong s v [] []
+  no_sides = record { picked = []; along = none; are = refl }
+
+  -- one side more, which is along the direction
+  pub side_along : (sides : List Corner) (connections : List Found) (e : Corner) → Along e → AreSidesAlong s v sides connections
+      → AreSidesAlong s v (sides ++ e ∷ []) (connections ++ side_connection s e ∷ [])
+  side_along sides connections e along are = record {
+    picked = are.picked ++ e ∷ [];
+    along = picked_more sides are.picked e along are.along;
+    are = ap (λ cs. cs ++ side_connection s e ∷ []) are.are ∙ sym (map-append (side_connection s) are.picked (e ∷ []));
+  }
+
+  -- one that isn't
+  pub side_across : (sides : List Corner) (connections : List Found) (e : Corner) → ¬ Along e → AreSidesAlong s v sides connections → AreSidesAlong s v (sides ++ e ∷ []) connections
+  side_across sides connections e across are = record { picked = are.picked; along = skipped_more sides are.picked e across are.along; are = are.are }
+
+  -- those of all sides, and what was found after them, are the connections
+  pub connections_of_sides : (connections found : List Found) → AreSidesAlong s v (all_sides s.polygons) connections → AreConnections s v found (connections ++ found)
+  connections_of_sides connections found are = record { sides = are.picked; along = are.along; together = ap (λ cs. cs ++ found) are.are }
+
+  -- the connections are determined
+  pub connections_unique : (found one other : List Found) → AreConnections s v found one → AreConnections s v found other → one ≡ other
+  connections_unique found one other h k =
+      h.together ∙ ap (λ sides. map (side_connection s) sides ++ found) (picked_unique (all_sides s.polygons) h.sides k.sides h.along k.along) ∙ sym k.together

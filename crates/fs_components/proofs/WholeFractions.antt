@@ -1,0 +1,20 @@
+-- Fractions over 1, and those of 1, are in lowest terms.
+use Rattle.std.proofs.Common.{◌≡◌, ℕ, ℤ, ◌<◌, ◌^◌, refl, subst, arith}
+use Rattle.std.specs.Prelude.{pos, ◌<ℤ◌, unsigned_abs}
+use Rattle.std.specs.Int.{◌∣◌}
+use Rattle.std.proofs.lemmas.Int.{ints}
+use Rattle.fs_quadratic.specs.Ring.{Quadratic}
+use Rattle.fs_quadratic.specs.Ring as ring
+use Rattle.fs_fraction.specs.Fraction.{IsLowest}
+use Rattle.fs_fraction.proofs.Divisors.{divisor_positive, divisor_at_most}
+
+divides_one : (k : ℕ) → k ∣ 1 → k ≡ 1
+divides_one k h = let low = divisor_positive k 1 h (omega arith) in let high = divisor_at_most k 1 h (omega arith) in omega arith
+
+-- a number over 1
+pub whole-lowest : (x : Quadratic) → IsLowest x 1
+whole-lowest x = record { positive = omega arith; within = omega arith; reduced = λ k p q den. divides_one k den }
+
+-- 1 over a number
+pub one_over-lowest : (den : ℕ) → 0 < den → den < 2 ^ 127 → IsLowest ring.one den
+one_over-lowest den some within = record { positive = some; within = within; reduced = λ k p q den. divides_one k p }
