@@ -1,6 +1,7 @@
 mod AlongSides
 mod EqualListed
 mod KeptConnections
+mod MeasureSteps
 mod PickedSides
 mod RunSizes
 mod SortedLists

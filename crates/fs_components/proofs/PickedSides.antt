@@ -1,13 +1,14 @@
 -- The sides along a direction are picked one after another, and in one way.
-use Rattle.std.proofs.Common.{◌≡◌, List, [], ◌∷◌, ◌++◌, map, refl, sym, ap, ◌∙◌, append_assoc}
+use Rattle.std.proofs.Common.{◌≡◌, ℕ, IfSome, List, [], ◌∷◌, ◌++◌, map, refl, sym, ap, ◌∙◌, subst}
 use Rattle.std.proofs.lemmas.List.{map-append}
+use Rattle.fs_lists.proofs.Items.{value_of, value_holds}
 use Rattle.fs_ring.specs.Direction.{IsAlong}
 use Rattle.fs_quadratic.specs.Ring.{quadratic, IsPositive}
 use Rattle.fs_plane.specs.declared.corners.Corner.{Corner}
 use Rattle.fs_plane.specs.Vector.{PlaneVector}
-use Rattle.fs_gluing.specs.Polygons.{all_sides}
+use Rattle.fs_gluing.specs.Polygons.{all_sides, at_side, HasSide}
 use Rattle.fs_gluing.specs.Surface.{GluedPolygons}
-use Rattle.fs_gluing.specs.SurfaceSides.{vector_of}
+use Rattle.fs_gluing.specs.SurfaceSides.{vector_of, vector_or}
 use Rattle.fs_rauzy.specs.declared.events.Found.{Found}
 use Rattle.fs_components.specs.Connections.{ArePicked, none, picks, skips, side_connection, AreConnections}
 use Rattle.fs_components.specs.Gathering.{AreSidesAlong}
@@ -28,14 +29,27 @@ module _ {X : Type 0} {P : X → Type 0} where
   -- the picked items are determined
   pub picked_unique : (xs ys zs : List X) → ArePicked P xs ys → ArePicked P xs zs → ys ≡ zs
   picked_unique _ _ _ none none = refl
-  picked_unique _ _ _ (picks x xs ys p rest) (picks x xs zs q others) = ap (λ more. x ∷ more) (picked_unique xs ys zs rest others)
-  picked_unique _ _ _ (picks x xs ys p rest) (skips x xs zs q others) = absurd (q p)
-  picked_unique _ _ _ (skips x xs ys p rest) (picks x xs zs q others) = absurd (p q)
-  picked_unique _ _ _ (skips x xs ys p rest) (skips x xs zs q others) = picked_unique xs ys zs rest others
+  picked_unique _ _ _ (picks x xs ys p rest) (picks _ _ zs q others) = ap (λ more. x ∷ more) (picked_unique xs ys zs rest others)
+  picked_unique _ _ _ (picks x xs ys p rest) (skips _ _ zs q others) = absurd (q p)
+  picked_unique _ _ _ (skips x xs ys p rest) (picks _ _ zs q others) = absurd (p q)
+  picked_unique _ _ _ (skips x xs ys p rest) (skips _ _ zs q others) = picked_unique xs ys zs rest others
 
 module _ (s : GluedPolygons) (v : PlaneVector) where
   abbrev Along : Corner → Type 0
   Along e = IsAlong (quadratic s.d) (IsPositive s.d) v (vector_of s.polygons e)
+
+  -- the vector of a side
+  pub vector_read : (e : Corner) (w : PlaneVector) → HasSide s.polygons e → IfSome (at_side s.polygons e) (λ side. w ≡ side.vector) → w ≡ vector_of s.polygons e
+  vector_read e w has h =
+      let side = value_of (at_side s.polygons e) has in
+      value_holds (at_side s.polygons e) (λ side. w ≡ side.vector) side.value side.is h ∙ sym (ap vector_or side.is)
+
+  -- whether it is along the direction
+  pub along_read : (d : ℕ) (e : Corner) (w : PlaneVector) → d ≡ s.d → w ≡ vector_of s.polygons e → IsAlong (quadratic d) (IsPositive d) v w → Along e
+  along_read d e w field is h = subst (λ x. IsAlong (quadratic s.d) (IsPositive s.d) v x) is (subst (λ n. IsAlong (quadratic n) (IsPositive n) v w) field h)
+
+  pub along_back : (d : ℕ) (e : Corner) (w : PlaneVector) → d ≡ s.d → w ≡ vector_of s.polygons e → Along e → IsAlong (quadratic d) (IsPositive d) v w
+  along_back d e w field is h = subst (λ n. IsAlong (quadratic n) (IsPositive n) v w) (sym field) (subst (λ x. IsAlong (quadratic s.d) (IsPositive s.d) v x) (sym is) h)
 
   -- no side
   pub no_sides : AreSidesAlong s v [] []

@@ -5,11 +5,17 @@ use Rattle.std.specs.Int.{◌∣◌}
 use Rattle.std.proofs.lemmas.Int.{ints}
 use Rattle.fs_quadratic.specs.Ring.{Quadratic}
 use Rattle.fs_quadratic.specs.Ring as ring
-use Rattle.fs_fraction.specs.Fraction.{IsLowest}
+use Rattle.fs_quadratic.specs.Width.{InWidth}
+use Rattle.fs_fraction.specs.Fraction.{Fraction, IsLowest, HasValue}
+use Rattle.fs_fraction.proofs.Lowest.{size_within}
+use Rattle.fs_components.specs.Measures.{one_over}
 use Rattle.fs_fraction.proofs.Divisors.{divisor_positive, divisor_at_most}
 
 divides_one : (k : ℕ) → k ∣ 1 → k ≡ 1
 divides_one k h = let low = divisor_positive k 1 h (omega arith) in let high = divisor_at_most k 1 h (omega arith) in omega arith
+
+positive_size : (z : ℤ) → pos 0 <ℤ z → 0 < unsigned_abs z
+positive_size z h = omega (arith, ints)
 
 -- a number over 1
 pub whole-lowest : (x : Quadratic) → IsLowest x 1
@@ -18,3 +24,7 @@ whole-lowest x = record { positive = omega arith; within = omega arith; reduced 
 -- 1 over a number
 pub one_over-lowest : (den : ℕ) → 0 < den → den < 2 ^ 127 → IsLowest ring.one den
 one_over-lowest den some within = record { positive = some; within = within; reduced = λ k p q den. divides_one k p }
+
+-- the only fraction in lowest terms with the value of 1 over a denominator
+pub one_over-given : (den : ℤ) (x : Fraction) → pos 0 <ℤ den → InWidth den → ((y : Fraction) → IsLowest y.num y.den → HasValue y ring.one (unsigned_abs den) → y ≡ x) → one_over (unsigned_abs den) ≡ x
+one_over-given den x some within only = only (one_over (unsigned_abs den)) (one_over-lowest (unsigned_abs den) (positive_size den some) (size_within den within)) refl

@@ -27,9 +27,9 @@ pub record AreSidesAlong (s : GluedPolygons) (v : PlaneVector) (sides : List Cor
   pub are : connections ≡ map (side_connection s) picked
 
 -- all connections can be kept, as these entries
-pub record AreKept (d : ℕ) (connections : List Found) (entries : List Listed) : Type 0 where
+pub record AreKept (d : ℕ) (connections : List Found) (list : List Listed) : Type 0 where
   pub keepable : AreKeepable connections
-  pub entries : AreEntriesOf d connections entries
+  pub entries : AreEntriesOf d connections list
 
 -- one connection more: these are the entries after it
 pub data IsKeptAfter (d : ℕ) (connection : Found) (before : List Listed) : List Listed → Type 0 where

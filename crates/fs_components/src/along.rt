@@ -2,12 +2,12 @@
 
 ghost use Rattle.std.specs.Prelude.{◌≡◌, ◌≢◌, ◌↔◌, ◌<◌, ◌^◌, IsTrue, Result, IsOk, List, [], ◌∷◌, ◌++◌, length, IfOk, IfErr, OnOk};
 ghost use Rattle.fs_ring.specs.Direction.{IsAlong};
-ghost use Rattle.fs_quadratic.specs.Ring.{quadratic, IsPositive};
+ghost use Rattle.fs_quadratic.specs.Ring.{quadratic, IsPositive, zero};
 ghost use Rattle.fs_plane.specs.declared.corners.Corner.{Corner};
 ghost use Rattle.fs_plane.specs.declared.listing.Listed.{Listed};
 ghost use Rattle.fs_plane.specs.declared.sites.Stop.{Stop};
 ghost use Rattle.fs_plane.specs.Formulas.{cross_after};
-ghost use Rattle.fs_plane.specs.Vector.{vector_zero};
+ghost use Rattle.fs_plane.specs.Vector.{vector_zero, cross as plane_cross};
 ghost use Rattle.fs_gluing.specs.Gluing.{sides_between};
 ghost use Rattle.fs_gluing.specs.NextCorner.{side_count};
 ghost use Rattle.fs_gluing.specs.Polygons.{HasSide};
@@ -105,12 +105,18 @@ fn is_along(field: Field, v: V2, side: V2) -> bool
     requires fits { IsOk (cross_after 0 field.d side v) }
     ensures { IsTrue result ↔ IsAlong (quadratic field.d) (IsPositive field.d) v side }
 {
+    is_parallel(field, v, side)
+        && field.sign(side.x) == field.sign(v.x)
+        && field.sign(side.y) == field.sign(v.y)
+}
+
+// Whether it is parallel to the direction.
+fn is_parallel(field: Field, v: V2, side: V2) -> bool
+    requires { IsOk (cross_after 0 field.d side v) }
+    ensures { IsTrue result ↔ (plane_cross field.d side v ≡ zero) }
+{
     match cross(field, side, v) {
-        Ok(across) => {
-            across == Elem::ZERO
-                && field.sign(side.x) == field.sign(v.x)
-                && field.sign(side.y) == field.sign(v.y)
-        }
+        Ok(across) => across == Elem::ZERO,
         Err(_) => unreachable!(),
     }
 }
