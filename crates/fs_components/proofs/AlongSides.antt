@@ -1,5 +1,9 @@
 -- Whether a vector that is parallel to a direction is along it, by the signs of its coordinates.
-use Rattle.std.proofs.Common.{◌≡◌, ◌≢◌, ◌⊎◌, ℕ, inl, inr, sym, ap, ◌∙◌, subst}
+use Rattle.std.proofs.Common.{◌≡◌, ◌≢◌, ◌⊎◌, ◌↔◌, ℕ, Bool, true, false, IsTrue, inl, inr, refl, sym, ap, ◌∙◌, subst}
+use Rattle.std.specs.Prelude.{◌==◌}
+use Rattle.std.specs.Ordering.{ordering_index}
+use Rattle.std.specs.declared.cmp.Ordering.{Ordering}
+use Rattle.std.specs.declared.cmp.Ordering.TheVariants.{Less, Equal, Greater}
 use Rattle.fs_ring.specs.Direction.{IsAlong}
 use Rattle.fs_ring.specs.Operations.{Operations}
 use Rattle.fs_ring.specs.OrderedRing.{IsOrderedRing, Sign, positive, null, negative}
@@ -89,3 +93,40 @@ module _ {d : ℕ} (radicand : IsRadicand d) where
   -- the squared length of a direction isn't 0
   pub norm-ne-zero : (v : PlaneVector) → v ≢ vector_zero → norm d v ≢ quadratics.zero
   norm-ne-zero v some = signs.positive-ne-zero L (norm_positive L v some)
+
+-- ---- tests
+
+same_ordering : (a b : Ordering) → (ordering_index a == ordering_index b) ≡ true → a ≡ b
+same_ordering Less Less e = refl
+same_ordering Less Equal e = absurd cc
+same_ordering Less Greater e = absurd cc
+same_ordering Equal Less e = absurd cc
+same_ordering Equal Equal e = refl
+same_ordering Equal Greater e = absurd cc
+same_ordering Greater Less e = absurd cc
+same_ordering Greater Equal e = absurd cc
+same_ordering Greater Greater e = refl
+
+index_same : (a : Ordering) → (ordering_index a == ordering_index a) ≡ true
+index_same Less = refl
+index_same Equal = refl
+index_same Greater = refl
+
+-- the test whether two signs are equal
+pub equal_signs : (d : ℕ) (x y : Quadratic) (a b : Ordering) (test : Bool) → a ≡ sign d x → b ≡ sign d y → test ≡ (ordering_index a == ordering_index b) → IsTrue test ↔ (sign d x ≡ sign d y)
+equal_signs d x y a b test is it t = (
+  λ h. sym is ∙ same_ordering a b (sym t ∙ h) ∙ it,
+  λ e. t ∙ ap (λ r. ordering_index r == ordering_index b) (is ∙ e ∙ sym it) ∙ index_same b,
+)
+
+-- whether a parallel vector is along the direction, by the test of the signs
+pub along_parallel : {d : ℕ} (radicand : IsRadicand d) (v a : PlaneVector) → v ≢ vector_zero → cross (quadratic d) a v ≡ quadratics.zero → (test : Bool)
+    → IsTrue test ↔ ((sign d a.x ≡ sign d v.x) × (sign d a.y ≡ sign d v.y)) → IsTrue test ↔ IsAlong (quadratic d) (quadratics.IsPositive d) v a
+along_parallel radicand v a some parallel test t = (
+  λ h. let both = t.0 h in along_by_signs radicand v a some parallel both.0 both.1,
+  λ h. let both = signs_of_along radicand v a h in t.1 (both.1, both.2),
+)
+
+-- any other one isn't
+pub along_across : {d : ℕ} (radicand : IsRadicand d) (v a : PlaneVector) → (cross (quadratic d) a v ≡ quadratics.zero → IsTrue false) → IsTrue false ↔ IsAlong (quadratic d) (quadratics.IsPositive d) v a
+along_across radicand v a across = (λ h. absurd cc, λ h. across (signs_of_along radicand v a h).0)

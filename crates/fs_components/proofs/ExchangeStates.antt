@@ -15,6 +15,7 @@ use Rattle.fs_iet.proofs.FittingSides.{have_widths}
 use Rattle.fs_rauzy.specs.declared.parts.Run.{Run}
 use Rattle.fs_rauzy.specs.Runs.{EndsRun}
 use Rattle.fs_rauzy.specs.States.{IsState, open_names}
+use Rattle.fs_components.specs.Connections.{IsRunOf}
 use Rattle.fs_components.specs.Gathering.{IsShort}
 use Rattle.fs_components.proofs.RunSizes.{run_sizes}
 
@@ -28,7 +29,7 @@ module _ (s : GluedPolygons) (surface : IsSurface s) (v : PlaneVector) (some : v
   pub given_state : GivesExchange s v (Ok c) → IsState (record { d = s.d; components = c ∷ [] })
   given_state (exchanged _ ok fits is) =
       let x = exchange_value s surface v some c is in
-      let names : open_names (c ∷ []) ≡ names_of c.top = sym (append-nil (names_of c.top)) in
+      let names : open_names (c ∷ []) ≡ names_of c.top = append-nil (names_of c.top) in
       record {
         lawful = (x.lawful, tt);
         apart = subst IsDistinct (sym names) x.lawful.names;
@@ -39,3 +40,7 @@ module _ (s : GluedPolygons) (surface : IsSurface s) (v : PlaneVector) (some : v
   -- its run has few connections and parts, and short parts
   pub given_sizes : GivesExchange s v (Ok c) → (n : ℕ) (run : Run) → EndsRun s.d n (c ∷ []) (Ok run) → (length run.found + length run.parts ≤ 1024) × AllByRecursion IsShort run.parts
   given_sizes g n run ends = run_sizes (field_order surface.radicand) c (given_state g) n run ends
+
+-- so has the run of the exchange
+pub run_few : (s : GluedPolygons) → IsSurface s → (v : PlaneVector) → v ≢ vector_zero → (run : Run) → IsRunOf s v run → length run.found ≤ 1024
+run_few s surface v some run of = let sizes = (given_sizes s surface v some of.exchange of.given of.budget run of.ended).0 in omega arith

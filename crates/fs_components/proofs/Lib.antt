@@ -1,7 +1,14 @@
 mod AlongSides
+mod ConnectionsUnique
 mod EqualListed
+mod ExchangeStates
+mod FlowUnique
 mod KeptConnections
+mod ListedConnections
 mod MeasureSteps
+mod MeasuredParts
+mod MeasuresUnique
+mod PendingMeaning
 mod PickedSides
 mod RunSizes
 mod SortedLists

@@ -1,5 +1,7 @@
 -- The steps by which the measures of a part are computed, one after another.
-use Rattle.std.proofs.Common.{◌≡◌, ℕ, ◌+◌, ◌*◌, Result, Ok, Err, List, [], ◌∷◌, refl}
+use Rattle.std.proofs.Common.{◌≡◌, ℕ, ◌+◌, ◌*◌, ◌<◌, ◌≤◌, Result, Ok, Err, List, [], ◌∷◌, length, drop, get_or, refl, sym, ap, ◌∙◌}
+use Rattle.std.proofs.lemmas.List.{drop_all}
+use Rattle.fs_lists.proofs.Items.{drop_item}
 use Rattle.fs_quadratic.specs.Checked.{checked_product, checked_sum}
 use Rattle.fs_quadratic.specs.Ring as ring
 use Rattle.fs_quadratic.specs.Ring.{Quadratic}
@@ -90,3 +92,12 @@ module _ (d : ℕ) (v : PlaneVector) (n : ℕ) (sum : Quadratic) (letter : Lette
 
       pub letter_added : (next : Quadratic) → Ok next ≡ checked_sum (25 + 5 * n) sum area → areas ≡ checked_areas d v (n + 1) next letters
       letter_added next e = rw (← a, ← b, ← e) refl
+
+-- the letter at an index comes next
+pub areas_read : (d : ℕ) (v : PlaneVector) (n : ℕ) (sum : Quadratic) (letters : List Letter) (letter : Letter) (whole_sum : Result Quadratic Place) → n < length letters → letter ≡ get_or letters n letter
+    → whole_sum ≡ checked_areas d v n sum (drop n letters) → whole_sum ≡ checked_areas d v n sum (letter ∷ drop (n + 1) letters)
+areas_read d v n sum letters letter r inside is e = e ∙ ap (checked_areas d v n sum) (drop_item letters n letter (record { inside = inside; is = is }))
+
+-- after the last letter the sum is whole
+pub areas_whole : (d : ℕ) (v : PlaneVector) (n : ℕ) (sum : Quadratic) (letters : List Letter) (r : Result Quadratic Place) → length letters ≤ n → r ≡ checked_areas d v n sum (drop n letters) → Ok sum ≡ r
+areas_whole d v n sum letters r all e = sym (e ∙ ap (checked_areas d v n sum) (drop_all n letters all))

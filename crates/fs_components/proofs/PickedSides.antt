@@ -1,14 +1,16 @@
 -- The sides along a direction are picked one after another, and in one way.
-use Rattle.std.proofs.Common.{◌≡◌, ℕ, IfSome, List, [], ◌∷◌, ◌++◌, map, refl, sym, ap, ◌∙◌, subst}
-use Rattle.std.proofs.lemmas.List.{map-append}
+use Rattle.std.proofs.Common.{◌≡◌, ℕ, ◌<◌, ◌≤◌, ◌^◌, IfSome, IsOk, List, [], ◌∷◌, ◌++◌, length, map, refl, sym, ap, ◌∙◌, subst, arith, length-append}
+use Rattle.std.proofs.lemmas.List.{map-append, length-map}
 use Rattle.fs_lists.proofs.Items.{value_of, value_holds}
 use Rattle.fs_ring.specs.Direction.{IsAlong}
 use Rattle.fs_quadratic.specs.Ring.{quadratic, IsPositive}
 use Rattle.fs_plane.specs.declared.corners.Corner.{Corner}
+use Rattle.fs_plane.specs.Formulas.{cross_after}
 use Rattle.fs_plane.specs.Vector.{PlaneVector}
 use Rattle.fs_gluing.specs.Polygons.{all_sides, at_side, HasSide}
-use Rattle.fs_gluing.specs.Surface.{GluedPolygons}
+use Rattle.fs_gluing.specs.Surface.{GluedPolygons, IsSurface}
 use Rattle.fs_gluing.specs.SurfaceSides.{vector_of, vector_or}
+use Rattle.fs_gluing.proofs.Sides.AllSides.{length-all_sides}
 use Rattle.fs_rauzy.specs.declared.events.Found.{Found}
 use Rattle.fs_components.specs.Connections.{ArePicked, none, picks, skips, side_connection, AreConnections}
 use Rattle.fs_components.specs.Gathering.{AreSidesAlong}
@@ -76,3 +78,25 @@ module _ (s : GluedPolygons) (v : PlaneVector) where
   pub connections_unique : (found one other : List Found) → AreConnections s v found one → AreConnections s v found other → one ≡ other
   connections_unique found one other h k =
       h.together ∙ ap (λ sides. map (side_connection s) sides ++ found) (picked_unique (all_sides s.polygons) h.sides k.sides h.along k.along) ∙ sym k.together
+
+-- its width across the direction fits
+pub width_read : (s : GluedPolygons) (v : PlaneVector) (d : ℕ) (e : Corner) (w : PlaneVector) → d ≡ s.d → w ≡ vector_of s.polygons e → IsOk (cross_after 0 s.d (vector_of s.polygons e) v) → IsOk (cross_after 0 d w v)
+width_read s v d e w field is fits = subst (λ n. IsOk (cross_after 0 n w v)) (sym field) (subst (λ x. IsOk (cross_after 0 s.d x v)) (sym is) fits)
+
+-- ---- how many there are
+
+picked_few : {X : Type 0} {P : X → Type 0} (xs ys : List X) → ArePicked P xs ys → length ys ≤ length xs
+picked_few _ _ none = omega arith
+picked_few _ _ (picks x xs ys p rest) = let less = picked_few xs ys rest in omega arith
+picked_few _ _ (skips x xs ys p rest) = let less = picked_few xs ys rest in omega arith
+
+-- the connections are no more than the sides and what was found
+pub few_connections : (s : GluedPolygons) (v : PlaneVector) (found connections : List Found) → IsSurface s → AreConnections s v found connections → length found ≤ 1024 → length connections < 2 ^ 32
+few_connections s v found connections surface are few =
+    let sides = picked_few (all_sides s.polygons) are.sides are.along in
+    let all = length-all_sides s.polygons in
+    let most = surface.sides in
+    let mapped = length-map are.sides (side_connection s) in
+    let joined = length-append (map (side_connection s) are.sides) found in
+    let total = ap length are.together in
+    omega arith

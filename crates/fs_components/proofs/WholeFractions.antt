@@ -1,13 +1,11 @@
 -- Fractions over 1, and those of 1, are in lowest terms.
-use Rattle.std.proofs.Common.{◌≡◌, ℕ, ℤ, ◌<◌, ◌^◌, refl, subst, arith}
+use Rattle.std.proofs.Common.{◌≡◌, ℕ, ℤ, ◌<◌, ◌^◌, sym, ap, arith}
 use Rattle.std.specs.Prelude.{pos, ◌<ℤ◌, unsigned_abs}
 use Rattle.std.specs.Int.{◌∣◌}
 use Rattle.std.proofs.lemmas.Int.{ints}
 use Rattle.fs_quadratic.specs.Ring.{Quadratic}
 use Rattle.fs_quadratic.specs.Ring as ring
-use Rattle.fs_quadratic.specs.Width.{InWidth}
-use Rattle.fs_fraction.specs.Fraction.{Fraction, IsLowest, HasValue}
-use Rattle.fs_fraction.proofs.Lowest.{size_within}
+use Rattle.fs_fraction.specs.Fraction.{Fraction, IsLowest, HasValue, scale}
 use Rattle.fs_components.specs.Measures.{one_over}
 use Rattle.fs_fraction.proofs.Divisors.{divisor_positive, divisor_at_most}
 
@@ -26,5 +24,7 @@ pub one_over-lowest : (den : ℕ) → 0 < den → den < 2 ^ 127 → IsLowest rin
 one_over-lowest den some within = record { positive = some; within = within; reduced = λ k p q den. divides_one k p }
 
 -- the only fraction in lowest terms with the value of 1 over a denominator
-pub one_over-given : (den : ℤ) (x : Fraction) → pos 0 <ℤ den → InWidth den → ((y : Fraction) → IsLowest y.num y.den → HasValue y ring.one (unsigned_abs den) → y ≡ x) → one_over (unsigned_abs den) ≡ x
-one_over-given den x some within only = only (one_over (unsigned_abs den)) (one_over-lowest (unsigned_abs den) (positive_size den some) (size_within den within)) refl
+pub one_over-given : (den : ℤ) (num : Quadratic) (x : Fraction) → pos 0 <ℤ den → unsigned_abs den < 2 ^ 127 → num ≡ ring.one → ((y : Fraction) → IsLowest y.num y.den → HasValue y num (unsigned_abs den) → y ≡ x)
+    → one_over (unsigned_abs den) ≡ x
+one_over-given den num x some within is only =
+    only (one_over (unsigned_abs den)) (one_over-lowest (unsigned_abs den) (positive_size den some) within) (ap (scale (unsigned_abs den)) (sym is))

@@ -2,7 +2,7 @@
 
 ghost use Rattle.std.specs.Prelude.{◌≡◌, ◌≢◌, ◌↔◌, ◌<◌, ◌^◌, IsTrue, Result, IsOk, List, [], ◌∷◌, ◌++◌, length, IfOk, IfErr, OnOk};
 ghost use Rattle.fs_ring.specs.Direction.{IsAlong};
-ghost use Rattle.fs_quadratic.specs.Ring.{quadratic, IsPositive, zero};
+ghost use Rattle.fs_quadratic.specs.Ring.{quadratic, IsPositive, zero, sign};
 ghost use Rattle.fs_plane.specs.declared.corners.Corner.{Corner};
 ghost use Rattle.fs_plane.specs.declared.listing.Listed.{Listed};
 ghost use Rattle.fs_plane.specs.declared.sites.Stop.{Stop};
@@ -105,9 +105,21 @@ fn is_along(field: Field, v: V2, side: V2) -> bool
     requires fits { IsOk (cross_after 0 field.d side v) }
     ensures { IsTrue result ↔ IsAlong (quadratic field.d) (IsPositive field.d) v side }
 {
-    is_parallel(field, v, side)
-        && field.sign(side.x) == field.sign(v.x)
-        && field.sign(side.y) == field.sign(v.y)
+    is_parallel(field, v, side) && has_signs_of(field, side, v)
+}
+
+// Whether the coordinates have the same signs.
+fn has_signs_of(field: Field, a: V2, b: V2) -> bool
+    ensures { IsTrue result ↔ ((sign field.d a.x ≡ sign field.d b.x) × (sign field.d a.y ≡ sign field.d b.y)) }
+{
+    is_same_sign(field, a.x, b.x) && is_same_sign(field, a.y, b.y)
+}
+
+// Whether two numbers have the same sign.
+fn is_same_sign(field: Field, x: Elem, y: Elem) -> bool
+    ensures { IsTrue result ↔ (sign field.d x ≡ sign field.d y) }
+{
+    field.sign(x) == field.sign(y)
 }
 
 // Whether it is parallel to the direction.
