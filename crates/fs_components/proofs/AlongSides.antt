@@ -128,5 +128,5 @@ along_parallel radicand v a some parallel test t = (
 )
 
 -- any other one isn't
-pub along_across : {d : ℕ} (radicand : IsRadicand d) (v a : PlaneVector) → (cross (quadratic d) a v ≡ quadratics.zero → IsTrue false) → IsTrue false ↔ IsAlong (quadratic d) (quadratics.IsPositive d) v a
-along_across radicand v a across = (λ h. absurd cc, λ h. across (signs_of_along radicand v a h).0)
+pub along_across : {d : ℕ} (radicand : IsRadicand d) (v a : PlaneVector) (test : Bool) → test ≡ false → IsTrue test ↔ (cross (quadratic d) a v ≡ quadratics.zero) → IsTrue test ↔ IsAlong (quadratic d) (quadratics.IsPositive d) v a
+along_across radicand v a test fails t = (λ h. let e = sym h ∙ fails in absurd cc, λ h. t.1 (signs_of_along radicand v a h).0)

@@ -2,6 +2,7 @@ mod AlongSides
 mod ConnectionsUnique
 mod EqualListed
 mod ExchangeStates
+mod FlowEnds
 mod FlowUnique
 mod KeptConnections
 mod ListedConnections

@@ -19,10 +19,6 @@ only_item (y ∷ []) x one is = ap (λ z. z ∷ []) (sym is)
 only_item (y ∷ z ∷ xs) x one is = absurd (omega arith)
 
 module _ (s : GluedPolygons) (v : PlaneVector) (p : Part) (d : ℕ) (den : ℤ) (field : d ≡ s.d) (same : den ≡ s.den) (letters : List Letter) (read : letters ≡ p.letters) (r : Result PartMeasures Place) where
-  -- a cylinder's first letter is its only one
-  pub first_letter : IsShort p → p.kind ≡ Cylinder → 0 < length letters
-  first_letter short kind = let one = short.one kind in omega (arith, ap length read)
-
   -- what a cylinder's measures are
   pub cylinder_given : IsShort p → p.kind ≡ Cylinder → (letter : Letter) → letter ≡ get_or letters 0 letter → r ≡ checked_cylinder d (unsigned_abs den) v p.width letter.back → GivesMeasures s v p r
   cylinder_given short kind letter is e =
@@ -47,3 +43,18 @@ module _ (s : GluedPolygons) (v : PlaneVector) where
   as_many [] (n ∷ ms) h = absurd h
   as_many (q ∷ ps) [] h = absurd h
   as_many (q ∷ ps) (n ∷ ms) h = ap (λ (k : ℕ). suc k) (as_many ps ms h.1)
+
+  -- the first part that overflows
+  pub measuring_stopped : (parts before after : List Part) (p : Part) (done : List Measured) (n : ℕ) (stop : Place) → parts ≡ before ++ p ∷ after → AreMeasured s v before done → GivesMeasures s v p (Err stop)
+      → n ≡ length done → StopsMeasuring s v parts (Value n stop.0)
+  measuring_stopped parts before after p done n stop is h overflows count = record {
+    before = before;
+    part = p;
+    after = after;
+    is = is;
+    done = done;
+    measured_before = h;
+    stop = stop;
+    overflows = overflows;
+    at = ap (λ (k : ℕ). Value k stop.0) (count ∙ as_many before done h);
+  }

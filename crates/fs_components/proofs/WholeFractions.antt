@@ -1,5 +1,5 @@
 -- Fractions over 1, and those of 1, are in lowest terms.
-use Rattle.std.proofs.Common.{◌≡◌, ℕ, ℤ, ◌<◌, ◌^◌, sym, ap, arith}
+use Rattle.std.proofs.Common.{◌≡◌, ℕ, ℤ, ◌<◌, ◌^◌, sym, ap, ◌∙◌, arith}
 use Rattle.std.specs.Prelude.{pos, ◌<ℤ◌, unsigned_abs}
 use Rattle.std.specs.Int.{◌∣◌}
 use Rattle.std.proofs.lemmas.Int.{ints}
@@ -24,7 +24,8 @@ pub one_over-lowest : (den : ℕ) → 0 < den → den < 2 ^ 127 → IsLowest rin
 one_over-lowest den some within = record { positive = some; within = within; reduced = λ k p q den. divides_one k p }
 
 -- the only fraction in lowest terms with the value of 1 over a denominator
-pub one_over-given : (den : ℤ) (num : Quadratic) (x : Fraction) → pos 0 <ℤ den → unsigned_abs den < 2 ^ 127 → num ≡ ring.one → ((y : Fraction) → IsLowest y.num y.den → HasValue y num (unsigned_abs den) → y ≡ x)
+pub one_over-given : (den z : ℤ) (num : Quadratic) (x : Fraction) → z ≡ den → pos 0 <ℤ den → unsigned_abs den < 2 ^ 127 → num ≡ ring.one → ((y : Fraction) → IsLowest y.num y.den → HasValue y num (unsigned_abs z) → y ≡ x)
     → one_over (unsigned_abs den) ≡ x
-one_over-given den num x some within is only =
-    only (one_over (unsigned_abs den)) (one_over-lowest (unsigned_abs den) (positive_size den some) within) (ap (scale (unsigned_abs den)) (sym is))
+one_over-given den z num x same some within is only =
+    only (one_over (unsigned_abs den)) (one_over-lowest (unsigned_abs den) (positive_size den some) within)
+    ((λ i. scale (unsigned_abs (same i)) ring.one) ∙ ap (scale (unsigned_abs den)) (sym is))

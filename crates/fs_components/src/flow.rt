@@ -60,6 +60,8 @@ pub fn find_flow(alloc: Global, surface: &Surface, v: V2, budget: u32) -> Result
     // The parts fill the surface, and are what they are said to be.
     ensures means { IfOk result (λ flow. FlowMeans surface.now v flow.parts) }
 {
+    // The contract of this call says what holds of the surface.
+    let _ = surface.field();
     let exchange = find_exchange(alloc, surface, v)?;
     let state = match State::new(alloc, exchange) {
         Ok(state) => state,

@@ -8,4 +8,4 @@ returns-then-is_parallel c =
     along_parallel c.args.field.radicand c.args.v c.args.side c.requires.direction (c.if-is_parallel.ensures.0 refl) c.has_signs_of.result c.has_signs_of.ensures
 
 pub returns-else-is_parallel : goal.returns-else-is_parallel
-returns-else-is_parallel c = along_across c.args.field.radicand c.args.v c.args.side c.if-is_parallel.ensures.1
+returns-else-is_parallel c = along_across c.args.field.radicand c.args.v c.args.side c.is_parallel.result c.if-is_parallel.false c.is_parallel.ensures
