@@ -27,7 +27,12 @@ use std::alloc::{AllocError, Global};
 /// It is refused as `Overflow` only at a site `Keep`: side after side, and then the found ones in order, it is the first one
 /// with a part over 2^57 in size; all of them are numbered. It is never undecided. The cost is linear in the sides and the
 /// found connections, and sorting takes n·log n comparisons of n entries.
-pub fn connections(alloc: Global, surface: &Surface, v: V2, run: &Run) -> Result<Sequence<Listed>, Stop>
+pub fn connections(
+    alloc: Global,
+    surface: &Surface,
+    v: V2,
+    run: &Run,
+) -> Result<Sequence<Listed>, Stop>
     requires direction { v ≢ vector_zero }
     requires run { IsRunOf surface.now v run.now }
     ensures list { ReturnsConnections (EndsConnections surface.now v run.now.found) result }

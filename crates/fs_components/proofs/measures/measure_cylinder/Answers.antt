@@ -1,13 +1,13 @@
 -- Step after step: where one overflows, the measures do.
 use Rattle.std.proofs.Common.{◌≡◌, ℤ, ap, ◌∙◌}
 use Rattle.std.proofs.lemmas.Int.{to_z-of_z}
+use Rattle.std.specs.Int.{w128}
 use Rattle.std.specs.Prelude.{unsigned_abs}
 use Rattle.fs_lists.proofs.Results.{at_exit}
 use Rattle.fs_fraction.specs.CheckedFractions.{checked_fraction_product}
 use Rattle.fs_components.specs.Measures.{checked_unscaled, checked_cylinder}
 use Rattle.fs_components.proofs.MeasureSteps.{inverse_stops, part_stops, height_stops, along_stops, product_stops, share_stops, area_stops, cylinder_measured}
 use Rattle.fs_components.proofs.measures.measure_cylinder.Goals as goal
-use mir.Syntax.{w128}
 
 pub returns-in_err-inverse : goal.returns-in_err-inverse
 returns-in_err-inverse c =
