@@ -6,7 +6,7 @@ use Rattle.std.specs.declared.cmp.Ordering.{Ordering}
 use Rattle.std.specs.declared.cmp.Ordering.TheVariants.{Less, Equal, Greater}
 use Rattle.fs_ring.specs.Direction.{IsAlong}
 use Rattle.fs_ring.specs.Operations.{Operations}
-use Rattle.fs_ring.specs.OrderedRing.{IsOrderedRing, Sign, positive, null, negative}
+use Rattle.fs_ring.specs.OrderedRing.{IsOrderedRing, positive, null, negative}
 use Rattle.fs_ring.specs.Vector.{Vector, zero_vector, cross, dot}
 use Rattle.fs_ring.proofs.Directions.{parallel_comm, norm_positive}
 use Rattle.fs_ring.proofs.AxisSigns.{along_x, along_y, along_norm}

@@ -1,5 +1,5 @@
 -- How the decomposition of a flow ends, stage after stage.
-use Rattle.std.proofs.Common.{◌≡◌, ℕ, Result, Ok, Err, List, [], ◌∷◌, sym, ◌∙◌, subst}
+use Rattle.std.proofs.Common.{◌≡◌, ℕ, Result, Ok, Err, List, [], ◌∷◌, ◌∙◌, subst}
 use Rattle.fs_plane.specs.declared.listing.Listed.{Listed}
 use Rattle.fs_plane.specs.declared.sites.Stop.{Stop}
 use Rattle.fs_plane.specs.declared.sites.Stop.TheVariants.{Undecided, Overflow, NoMemory}
@@ -10,7 +10,6 @@ use Rattle.fs_iet.specs.ExchangeSites.{GivesExchange}
 use Rattle.fs_iet.specs.ExchangeValue.{ReturnsExchange}
 use Rattle.fs_rauzy.specs.declared.parts.Run.{Run}
 use Rattle.fs_rauzy.specs.Runs.{EndsRun, ReturnsRun}
-use Rattle.fs_components.specs.declared.flow.Flow.{Flow}
 use Rattle.fs_components.specs.declared.flow.Measured.{Measured}
 use Rattle.fs_components.specs.Connections.{EndsConnections, ReturnsConnections, IsRunOf}
 use Rattle.fs_components.specs.Flows.{EndsFlow, exchange_stops, run_stops, keep_stops, value_stops, decomposed, ReturnsFlow, AreMeasured}

@@ -1,16 +1,16 @@
 mod AlongSides
-mod ConnectionsUnique
+pub mod ConnectionsUnique
 mod EqualListed
-mod ExchangeStates
+pub mod ExchangeStates
 mod FlowEnds
-mod FlowUnique
+pub mod FlowUnique
 mod KeptConnections
 mod ListedConnections
 mod MeasureSteps
 mod MeasuredParts
-mod MeasuresUnique
+pub mod MeasuresUnique
 mod PendingMeaning
 mod PickedSides
-mod RunSizes
+pub mod RunSizes
 mod SortedLists
 mod WholeFractions

@@ -1,9 +1,8 @@
 -- The steps by which the measures of a part are computed, one after another.
-use Rattle.std.proofs.Common.{◌≡◌, ℕ, ◌+◌, ◌*◌, ◌<◌, ◌≤◌, Result, Ok, Err, List, [], ◌∷◌, length, drop, get_or, refl, sym, ap, ◌∙◌}
+use Rattle.std.proofs.Common.{◌≡◌, ℕ, ◌+◌, ◌*◌, ◌<◌, ◌≤◌, Result, Ok, Err, List, ◌∷◌, length, drop, get_or, refl, sym, ap, ◌∙◌}
 use Rattle.std.proofs.lemmas.List.{drop_all}
 use Rattle.fs_lists.proofs.Items.{drop_item}
 use Rattle.fs_quadratic.specs.Checked.{checked_product, checked_sum}
-use Rattle.fs_quadratic.specs.Ring as ring
 use Rattle.fs_quadratic.specs.Ring.{Quadratic}
 use Rattle.fs_quadratic.specs.declared.steps.Place.{Place}
 use Rattle.fs_fraction.specs.CheckedFractions.{checked_fraction_product}
@@ -11,7 +10,7 @@ use Rattle.fs_fraction.specs.Fraction.{Fraction}
 use Rattle.fs_plane.specs.Formulas.{norm_after, dot_after}
 use Rattle.fs_plane.specs.Vector.{PlaneVector}
 use Rattle.fs_rauzy.specs.declared.parts.Letter.{Letter}
-use Rattle.fs_components.specs.Measures.{PartMeasures, whole, one_over, checked_unscaled, checked_inverse, checked_cylinder, checked_areas, checked_looped}
+use Rattle.fs_components.specs.Measures.{PartMeasures, whole, one_over, checked_unscaled, checked_inverse, checked_cylinder, checked_areas}
 
 -- ---- a fraction over the square of the denominator
 

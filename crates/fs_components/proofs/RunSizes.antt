@@ -13,13 +13,13 @@ use Rattle.fs_rauzy.specs.declared.parts.Kind.{Kind}
 use Rattle.fs_rauzy.specs.declared.parts.Kind.TheVariants.{Cylinder, Looped}
 use Rattle.fs_rauzy.specs.declared.parts.Part.{Part}
 use Rattle.fs_rauzy.specs.declared.parts.Run.{Run}
-use Rattle.fs_rauzy.specs.Events.{Outcome, Makes}
+use Rattle.fs_rauzy.specs.Events.{Outcome}
 use Rattle.fs_rauzy.specs.Measures.{weight, weight_taken}
 use Rattle.fs_rauzy.specs.Rule.{FollowsRule}
 use Rattle.fs_rauzy.specs.Runs.{Point, start_of, found_by, part_of, Goes, Leads, no_event, event, EndsRun, all_closed}
 use Rattle.fs_rauzy.specs.States.{IsState, open_names}
 use Rattle.fs_rauzy.proofs.EventWeights.{event_weight}
-use Rattle.fs_rauzy.proofs.RunSteps.{WinsTo, Becomes, ClosesLoop, ClosesAs, StepsTo, AfterEvent, goes_cases, after_open, closing, loop_makes}
+use Rattle.fs_rauzy.proofs.RunSteps.{Becomes, AfterEvent, goes_cases, after_open, loop_makes}
 use Rattle.fs_rauzy.proofs.RunUnique.{led_state}
 use Rattle.fs_components.specs.Gathering.{IsShort}
 

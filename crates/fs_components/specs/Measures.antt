@@ -1,5 +1,5 @@
 -- The unscaled squares and areas of parts, as they are computed.
-use Rattle.std.specs.Prelude.{ℕ, ◌+◌, ◌*◌, ℤ, pos, Result, Ok, List, [], ◌∷◌, unsigned_abs}
+use Rattle.std.specs.Prelude.{ℕ, ◌+◌, ◌*◌, Result, Ok, List, [], ◌∷◌}
 use Rattle.fs_quadratic.specs.Checked.{◌>>=◌, checked_product, checked_sum}
 use Rattle.fs_quadratic.specs.Ring as ring
 use Rattle.fs_quadratic.specs.Ring.{Quadratic}

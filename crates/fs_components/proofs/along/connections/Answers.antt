@@ -1,9 +1,7 @@
 -- The connections are gathered, kept and sorted.
-use Rattle.std.proofs.Common.{◌<◌, ◌^◌, ◌≤◌, Ok, length, sym, ap, ◌∙◌, subst, arith}
+use Rattle.std.proofs.Common.{Ok}
 use Rattle.fs_lists.proofs.Results.{at_exit}
-use Rattle.fs_rauzy.specs.declared.events.Found.{Found}
-use Rattle.fs_rauzy.specs.declared.parts.Run.{Run}
-use Rattle.fs_components.specs.Connections.{EndsConnections, ReturnsConnections, IsRunOf}
+use Rattle.fs_components.specs.Connections.{EndsConnections, ReturnsConnections}
 use Rattle.fs_components.proofs.ConnectionsUnique.{list_returned}
 use Rattle.fs_components.proofs.ExchangeStates.{given_widths, run_few}
 use Rattle.fs_components.proofs.ListedConnections.{connections_read, list_stopped, list_ended}

@@ -1,5 +1,5 @@
 -- Polygon after polygon, and then what was found.
-use Rattle.std.proofs.Common.{take, refl, sym, ap, ◌∙◌, subst, arith}
+use Rattle.std.proofs.Common.{take, refl, sym, subst, arith}
 use Rattle.fs_gluing.specs.Polygons.{sides_from}
 use Rattle.fs_iet.proofs.SidesListed.{polygons_more, polygons_all}
 use Rattle.fs_components.specs.Connections.{AreConnections}

@@ -1,5 +1,5 @@
 -- Connection after connection is kept, up to the first that can't be.
-use Rattle.std.proofs.Common.{take, IfErr, refl, sym, subst, arith}
+use Rattle.std.proofs.Common.{IfErr, refl, sym, subst, arith}
 use Rattle.std.proofs.lemmas.List.{take_all}
 use Rattle.fs_lists.proofs.Results.{at_exit}
 use Rattle.fs_components.specs.Gathering.{AreKept, StopsKeeping}

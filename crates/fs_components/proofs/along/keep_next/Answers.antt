@@ -1,5 +1,5 @@
 -- A connection is left out or kept.
-use Rattle.std.proofs.Common.{◌∷◌, [], ◌++◌, sym, ap, ◌∙◌, subst}
+use Rattle.std.proofs.Common.{sym, ap, subst}
 use Rattle.fs_quadratic.specs.declared.radicand.Field.{Field}
 use Rattle.fs_plane.specs.EqualVectors.{Decides-is_same_vector}
 use Rattle.fs_plane.specs.Vector.{vector_zero}
