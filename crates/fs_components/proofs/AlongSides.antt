@@ -81,11 +81,11 @@ module _ {d : ℕ} (radicand : IsRadicand d) where
   ]
 
   -- a vector that is parallel to the direction is along it where their coordinates have the same signs
-  pub along_by_signs : (v a : PlaneVector) → v ≢ vector_zero → cross (quadratic d) a v ≡ quadratics.zero → sign d a.x ≡ sign d v.x → sign d a.y ≡ sign d v.y → IsAlong (quadratic d) (quadratics.IsPositive d) v a
+  along_by_signs : (v a : PlaneVector) → v ≢ vector_zero → cross (quadratic d) a v ≡ quadratics.zero → sign d a.x ≡ sign d v.x → sign d a.y ≡ sign d v.y → IsAlong (quadratic d) (quadratics.IsPositive d) v a
   along_by_signs v a some parallel x y = same_along L v a some (parallel_comm L a v parallel) (signs_same a.x v.x x) (signs_same a.y v.y y)
 
   -- and of a vector along the direction they do
-  pub signs_of_along : (v a : PlaneVector) → IsAlong (quadratic d) (quadratics.IsPositive d) v a → (cross (quadratic d) a v ≡ quadratics.zero) × (sign d a.x ≡ sign d v.x) × (sign d a.y ≡ sign d v.y)
+  signs_of_along : (v a : PlaneVector) → IsAlong (quadratic d) (quadratics.IsPositive d) v a → (cross (quadratic d) a v ≡ quadratics.zero) × (sign d a.x ≡ sign d v.x) × (sign d a.y ≡ sign d v.y)
   signs_of_along v a h =
       let same = along_same L v a h in
       (parallel_comm L v a h.parallel, signs_equal a.x v.x same.0, signs_equal a.y v.y same.1)

@@ -6,6 +6,7 @@ mod FlowEnds
 pub mod FlowUnique
 mod KeptConnections
 mod ListedConnections
+mod LowestDenominators
 mod MeasureSteps
 mod MeasuredParts
 pub mod MeasuresUnique
@@ -13,4 +14,3 @@ mod PendingMeaning
 mod PickedSides
 pub mod RunSizes
 mod SortedLists
-mod WholeFractions

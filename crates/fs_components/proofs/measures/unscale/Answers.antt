@@ -7,7 +7,7 @@ use Rattle.fs_lists.proofs.Results.{at_exit}
 use Rattle.fs_fraction.specs.CheckedFractions.{checked_fraction_product}
 use Rattle.fs_components.specs.Measures.{checked_unscaled}
 use Rattle.fs_components.proofs.MeasureSteps.{once_stops, twice_given}
-use Rattle.fs_components.proofs.WholeFractions.{one_over-given}
+use Rattle.fs_components.proofs.LowestDenominators.{one_over-given}
 use Rattle.fs_components.proofs.measures.unscale.Goals as goal
 
 pub returns-in_err-once : goal.returns-in_err-once

@@ -1,4 +1,4 @@
--- Fractions over 1, and those of 1, are in lowest terms.
+-- 1 over a number is in lowest terms.
 use Rattle.std.proofs.Common.{◌≡◌, ℕ, ℤ, ◌<◌, ◌^◌, sym, ap, ◌∙◌, arith}
 use Rattle.std.specs.Prelude.{pos, ◌<ℤ◌, unsigned_abs}
 use Rattle.std.specs.Int.{◌∣◌}
@@ -15,12 +15,7 @@ divides_one k h = let low = divisor_positive k 1 h (omega arith) in let high = d
 positive_size : (z : ℤ) → pos 0 <ℤ z → 0 < unsigned_abs z
 positive_size z h = omega (arith, ints)
 
--- a number over 1
-pub whole-lowest : (x : Quadratic) → IsLowest x 1
-whole-lowest x = record { positive = omega arith; within = omega arith; reduced = λ k p q den. divides_one k den }
-
--- 1 over a number
-pub one_over-lowest : (den : ℕ) → 0 < den → den < 2 ^ 127 → IsLowest ring.one den
+one_over-lowest : (den : ℕ) → 0 < den → den < 2 ^ 127 → IsLowest ring.one den
 one_over-lowest den some within = record { positive = some; within = within; reduced = λ k p q den. divides_one k p }
 
 -- the only fraction in lowest terms with the value of 1 over a denominator
