@@ -3,7 +3,7 @@ use Rattle.std.proofs.Common.{Ok, Err, arith}
 use Rattle.fs_lists.proofs.Results.{at_exit}
 use Rattle.fs_components.specs.Flows.{EndsFlow, ReturnsFlow}
 use Rattle.fs_components.proofs.ExchangeStates.{given_sizes}
-use Rattle.fs_components.proofs.FlowEnds.{run_read, exchange_ended, run_ended, connections_ended, parts_ended, flow_ended}
+use Rattle.fs_components.proofs.FlowEnds.{run_read, exchange_ended, run_ended, is_run, connections_ended, parts_ended, flow_ended}
 use Rattle.fs_components.proofs.FlowUnique.{flow_returned}
 use Rattle.fs_components.proofs.PendingMeaning.{flow_means}
 use Rattle.fs_components.proofs.flow.find_flow.Goals as goal
@@ -27,6 +27,12 @@ returns-in_err-run-clause-flow c =
 pub returns-in_err-run-clause-only : goal.returns-in_err-run-clause-only
 returns-in_err-run-clause-only c =
     flow_returned c.args.surface.now c.args.v c.args.budget c.field.ensures.surface c.requires.direction c.from_residual-in_err-run.result (returns-in_err-run-clause-flow c)
+
+pub connections-requires-clause-run : goal.connections-requires-clause-run
+connections-requires-clause-run c =
+    is_run c.args.surface.now c.args.v c.args.budget c.in_ok-exchange.exchange.component c.in_ok-exchange.ensures.exchange c.in_ok-run.run'
+    (run_read c.in-Ok.state.d c.in-Ok.state.components c.args.surface.now.d c.args.budget c.in_ok-exchange.exchange.component c.in_ok-exchange.exchange.d (Ok c.in_ok-run.run') c.in-Ok.ensures.field c.in_ok-exchange.ensures.field c.in-Ok.ensures.components
+    c.in_ok-run.ensures.run)
 
 pub returns-in_err-connections-clause-flow : goal.returns-in_err-connections-clause-flow
 returns-in_err-connections-clause-flow c =
