@@ -1,4 +1,5 @@
 pub mod Connections
 pub mod FlowMeaning
 pub mod Flows
+pub mod Gathering
 pub mod Measures

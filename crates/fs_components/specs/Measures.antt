@@ -1,5 +1,5 @@
 -- The unscaled squares and areas of parts, as they are computed.
-use Rattle.std.specs.Prelude.{ℕ, ◌+◌, ◌*◌, ℤ, pos, Result, Ok, List, [], ◌∷◌, unsigned_abs}
+use Rattle.std.specs.Prelude.{ℕ, ◌+◌, ◌*◌, Result, Ok, List, [], ◌∷◌}
 use Rattle.fs_quadratic.specs.Checked.{◌>>=◌, checked_product, checked_sum}
 use Rattle.fs_quadratic.specs.Ring as ring
 use Rattle.fs_quadratic.specs.Ring.{Quadratic}
@@ -52,7 +52,7 @@ abbrev pub checked_areas : ℕ → PlaneVector → ℕ → Quadratic → List Le
 checked_areas d v n sum [] = Ok sum
 checked_areas d v n sum (letter ∷ letters) =
     (dot_after (20 + 5 * n) d v letter.back >>= (λ along. checked_product d (24 + 5 * n) letter.length along >>= (λ area. checked_sum (25 + 5 * n) sum area >>= (λ next.
-        checked_areas d v (n + 1) next letters))))
+    checked_areas d v (n + 1) next letters))))
 
 -- those of a part that isn't a cylinder: its squares are 0
 unfoldable pub checked_looped : ℕ → ℕ → PlaneVector → List Letter → Result PartMeasures Place

@@ -1,13 +1,15 @@
 // The decomposition of a flow into its parts.
 
-ghost use Rattle.std.specs.Prelude.{◌≡◌, ◌≢◌, ◌≤◌, ◌<◌, Result, Ok, Err, length, IfOk, IfErr};
+ghost use Rattle.std.specs.Prelude.{◌≡◌, ◌≢◌, ◌≤◌, Result, List, [], ◌∷◌, ◌++◌, length, IfOk, IfErr, OnOk};
+ghost use Rattle.std.specs.List.{AllByRecursion};
 ghost use Rattle.fs_plane.specs.declared.sites.Stop.{Stop};
 ghost use Rattle.fs_plane.specs.Vector.{vector_zero};
 ghost use Rattle.fs_components.specs.declared.flow.Flow.{Flow};
 ghost use Rattle.fs_components.specs.FlowMeaning.{FlowMeans};
-ghost use Rattle.fs_components.specs.Flows.{EndsFlow, ReturnsFlow};
+ghost use Rattle.fs_components.specs.Flows.{EndsFlow, ReturnsFlow, GivesMeasures, AreMeasured, measured};
+ghost use Rattle.fs_components.specs.Gathering.{IsShort, StopsAtMeasure};
 
-use crate::connections::connections;
+use crate::along::connections;
 use crate::measures::{PartMeasures, measure_cylinder, measure_looped};
 use fs_fraction::Frac;
 use fs_gluing::{Sequence, Surface};
@@ -58,8 +60,13 @@ pub fn find_flow(alloc: Global, surface: &Surface, v: V2, budget: u32) -> Result
     // The parts fill the surface, and are what they are said to be.
     ensures means { IfOk result (λ flow. FlowMeans surface.now v flow.parts) }
 {
+    // The contract of this call says what holds of the surface.
+    let _ = surface.field();
     let exchange = find_exchange(alloc, surface, v)?;
-    let state = State::new(alloc, exchange)?;
+    let state = match State::new(alloc, exchange) {
+        Ok(state) => state,
+        Err(_) => return Err(Stop::NoMemory),
+    };
     let run = find_run(alloc, state, budget)?;
     let connections = connections(alloc, surface, v, &run)?;
     let parts = measure_parts(alloc, surface, v, run.parts)?;
@@ -71,41 +78,57 @@ pub fn find_flow(alloc: Global, surface: &Surface, v: V2, budget: u32) -> Result
 }
 
 // All parts with their measures.
-fn measure_parts(alloc: Global, surface: &Surface, v: V2, parts: Sequence<Part>) -> Result<Sequence<Measured>, Stop> {
-    let mut list = Vec::with_capacity(alloc, parts.len())?;
-    for (n, part) in parts.into_vec().into_iter().enumerate() {
+fn measure_parts(
+    alloc: Global,
+    surface: &Surface,
+    v: V2,
+    parts: Sequence<Part>,
+) -> Result<Sequence<Measured>, Stop>
+    requires direction { v ≢ vector_zero }
+    requires short { AllByRecursion IsShort parts }
+    requires few { length parts ≤ 1024 }
+    ensures measured { IfOk result (AreMeasured surface.now v parts) }
+    ensures stops { IfErr result (StopsAtMeasure surface.now v parts) }
+{
+    let mut list = Sequence::new(alloc);
+    for part in parts.into_vec() {
         match measure(surface, v, &part) {
             Ok(measures) => push_measured(&mut list, part, measures)?,
             Err(Place(place)) => {
-                return Err(Stop::Overflow(Site::Value {
-                    component: n as u32,
-                    place,
-                }));
+                let component = list.len() as u32;
+                return Err(Stop::Overflow(Site::Value { component, place }));
             }
         }
     }
-    Ok(Sequence::from_vec(list))
+    Ok(list)
 }
 
 // The measures of a part.
-fn measure(surface: &Surface, v: V2, part: &Part) -> Result<PartMeasures, Place> {
+fn measure(surface: &Surface, v: V2, part: &Part) -> Result<PartMeasures, Place>
+    requires direction { v ≢ vector_zero }
+    requires short { IsShort part.now }
+    ensures { GivesMeasures surface.now v part.now result }
+{
+    let field = surface.field();
     let letters = part.letters.as_slice();
     match part.kind {
-        Kind::Cylinder => {
-            let letter = letters[0];
-            measure_cylinder(surface.field(), surface.den(), v, part.width, letter.back)
-        }
-        Kind::Looped { .. } => measure_looped(surface.field(), surface.den(), v, letters),
+        Kind::Cylinder => measure_cylinder(field, surface.den(), v, part.width, letters[0].back),
+        Kind::Looped { .. } => measure_looped(field, surface.den(), v, letters),
     }
 }
 
 // Adds a part with its measures.
-fn push_measured(list: &mut Vec<Measured>, part: Part, measures: PartMeasures) -> Result<(), AllocError> {
+fn push_measured(
+    list: &mut Sequence<Measured>,
+    part: Part,
+    measures: PartMeasures,
+) -> Result<(), AllocError>
+    ensures { OnOk result (list.new ≡ list.old ++ measured part measures ∷ []) }
+{
     list.push(Measured {
         part,
         holonomy_square: measures.holonomy_square,
         height_square: measures.height_square,
         area: measures.area,
-    })?;
-    Ok(())
+    })
 }

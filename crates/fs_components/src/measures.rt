@@ -2,6 +2,7 @@
 
 ghost use Rattle.std.specs.Prelude.{◌≡◌, ◌≢◌, ◌<◌, ◌≤◌, ◌<ℤ◌, pos, unsigned_abs, length};
 ghost use Rattle.fs_plane.specs.Vector.{vector_zero};
+ghost use Rattle.fs_quadratic.specs.Ring.{zero};
 ghost use Rattle.fs_iet.specs.ExchangeValue.{most_letters};
 ghost use Rattle.fs_components.specs.Measures.{whole, one_over, checked_unscaled, checked_inverse, checked_cylinder, checked_looped, checked_areas};
 
@@ -28,6 +29,8 @@ impl Model for PartMeasures {
     ghost Value = { measures.PartMeasures };
 
     ghost view = { λ m. record { holonomy_square = m.holonomy_square; height_square = m.height_square; area = m.area } };
+
+    ghost inverse = { λ m. record { holonomy_square = m.holonomy_square; height_square = m.height_square; area = m.area } };
 }
 
 // Those of a cylinder with this width and this return vector.
@@ -87,7 +90,7 @@ pub fn measure_looped(
 // The sum of the areas of letters, scaled by the squared length of the direction.
 fn add_areas(field: Field, v: V2, letters: &[Letter]) -> Result<Elem, Place>
     requires { length letters.now ≤ most_letters }
-    ensures { result ≡ checked_areas field.d v 0 Elem.ZERO letters.now }
+    ensures { result ≡ checked_areas field.d v 0 zero letters.now }
 {
     let mut sum = Elem::ZERO;
     for (n, letter) in letters.iter().enumerate() {
