@@ -1,6 +1,6 @@
 -- Lists that a loop makes item by item: one item more.
-use Rattle.std.proofs.Common.{◌≡◌, ℕ, zero, suc, ◌+◌, ◌<◌, Some, List, [], ◌∷◌, ◌++◌, length, take, map, get_or, refl, sym, ap, ◌∙◌, arith, add-zero, add-one}
-use Rattle.std.proofs.lemmas.List.{take_more, get_or-map}
+use Rattle.std.proofs.Common.{◌≡◌, ℕ, zero, suc, ◌+◌, ◌-◌, ◌<◌, Some, List, [], ◌∷◌, ◌++◌, length, take, reverse, set, get_or, sym, ap, ◌∙◌, arith, zero-add, add-one}
+use Rattle.std.proofs.lemmas.List.{take_more, get_or-map, length-append, reverse-append, reverse-reverse, set_at}
 use Rattle.std.proofs.lemmas.List.FromFn.{get_or-range_with_len}
 use Rattle.std.proofs.lemmas.Option.{slice_get-get_or, slice_get_within, get_or_from_slice_get}
 use Rattle.std.specs.List.{slice_get, range_with_len}
@@ -29,7 +29,7 @@ pub letter_read : (letters : List Letter) (n : ℕ) (read : Letter) → n < leng
 letter_read letters n read inside named name len back corner start end =
     let letter = get_or letters n no_letter in
     let item : slice_get letters n ≡ Some letter = slice_get-get_or letters n no_letter inside in
-    let own : read.name ≡ letter.name = name ∙ sym (get_or-range_with_len 0 (length letters) n 0 inside) ∙ ap (λ names. get_or names n 0) (sym named) ∙ get_or-map (λ (l : Letter). l.name) letters n no_letter 0 inside in
+    let own : read.name ≡ letter.name = name ∙ sym (zero-add n) ∙ sym (get_or-range_with_len 0 (length letters) n 0 inside) ∙ ap (λ names. get_or names n 0) (sym named) ∙ get_or-map (λ (l : Letter). l.name) letters n no_letter 0 inside in
     λ i. record {
       name = own i;
       length = value_holds (slice_get letters n) (λ l. read.length ≡ l.length) letter item len i;
@@ -38,3 +38,12 @@ letter_read letters n read inside named name len back corner start end =
       start = value_holds (slice_get letters n) (λ l. read.start ≡ l.start) letter item start i;
       end = value_holds (slice_get letters n) (λ l. read.end ≡ l.end) letter item end i;
     }
+
+-- a list that is seen from its end, with another last item
+pub reverse-set_last : {X : Type 0} (xs : List X) (n : ℕ) (item last : X) (rest : List X) → n ≡ length xs - 1 → reverse xs ≡ last ∷ rest → reverse (set xs n item) ≡ item ∷ rest
+reverse-set_last xs n item last rest long e =
+    let whole : xs ≡ reverse rest ++ last ∷ [] = sym (reverse-reverse xs) ∙ ap reverse e ∙ reverse-append (last ∷ []) rest in
+    let size : length xs ≡ length (reverse rest ++ last ∷ []) = ap length whole in
+    let sum = length-append (reverse rest) (last ∷ []) in
+    let before : length (reverse rest) ≡ n = omega arith in
+    ap (λ ys. reverse (set ys n item)) whole ∙ ap reverse (set_at (reverse rest) last [] item n before) ∙ reverse-append (reverse rest) (item ∷ []) ∙ ap (λ ys. item ∷ ys) (reverse-reverse rest)

@@ -1,16 +1,18 @@
 -- The places of names in a row, as they are noted, and what std's search in a slice says.
-use Rattle.std.proofs.Common.{◌≡◌, ◌⊎◌, ℕ, ◌+◌, ◌<◌, Bool, Decides, eqb, Some, List, length, take, get_or, set, refl, sym, ap, ◌∙◌, inl, inr, arith, ◌++◌, [], ◌∷◌, subst}
+use Rattle.std.proofs.Common.{◌≡◌, ◌⊎◌, ℕ, ◌+◌, ◌<◌, Bool, Decides, IsPermutation, eqb, Some, List, length, take, get_or, set, sym, ap, ◌∙◌, inl, inr, arith, [], ◌∷◌, subst}
 use Rattle.std.proofs.lemmas.Bool.{cases_eq}
 use Rattle.std.proofs.lemmas.Bool.Decides.{Decides-eqb}
 use Rattle.std.proofs.lemmas.List.{take_more}
 use Rattle.std.proofs.lemmas.List.Elements.{contains_decides, Decides-contains}
-use Rattle.std.proofs.lemmas.Option.{same_Some, slice_get-get_or, get_or_from_slice_get}
+use Rattle.std.proofs.lemmas.List.Sorted.{IsPermutation-sym}
+use Rattle.std.proofs.lemmas.Option.{slice_get-get_or, slice_get_within, get_or_from_slice_get}
 use Rattle.std.specs.List.{slice_get, IsAnyAnswer}
 use Rattle.fs_lists.specs.Members.{IsIn, IsDistinct}
 use Rattle.fs_lists.proofs.Items.{slice_get-set_same, slice_get-set_other}
 use Rattle.fs_lists.proofs.Members.{in_of_contains, in_append_cases}
-use Rattle.fs_iet.proofs.ListsInTurn.{number_unique}
-use Rattle.fs_iet.proofs.Rearrangements.{contains_of_in}
+use Rattle.fs_iet.proofs.ListsInTurn.{in_by_number, number_of_member, number_unique}
+use Rattle.fs_iet.proofs.Rearrangements.{contains_of_in, in_permutation}
+use Rattle.fs_rauzy.specs.SplitsInPlace.{ArePlaces}
 use Rattle.fs_rauzy.proofs.Prefixes.{AreAmong}
 
 -- the place of each of the first n names is noted
@@ -41,3 +43,26 @@ pub contains_tells : (xs : List ℕ) (x : ℕ) (answer : Bool) → IsAnyAnswer (
 contains_tells xs x answer h =
     let d = Decides-contains xs x answer (contains_decides eqb Decides-eqb xs x answer h) in
     ((λ e. in_of_contains x xs (d.0 e)), (λ k. d.1 (contains_of_in x xs k)))
+
+-- a name whose place is noted
+pub record IsNoted (row places : List ℕ) (name : ℕ) : Type 0 where
+  pub place : ℕ
+  pub at : slice_get row place ≡ Some name
+  pub noted : get_or places name 0 ≡ place
+  pub inside : name < length places
+  pub below : place < length row
+
+-- each name of the other row is one
+pub name_noted : (top bottom places : List ℕ) (n d : ℕ) → IsPermutation top bottom → ArePlaces top places → n < length bottom → IsNoted top places (get_or bottom n d)
+name_noted top bottom places n d same noted inside =
+    let name = get_or bottom n d in
+    let there : IsIn name top = in_permutation name bottom top (IsPermutation-sym top bottom same) (in_by_number bottom n name (slice_get-get_or bottom n d inside)) in
+    let number = number_of_member top name there in
+    let read = noted number.0 name number.1 in
+    record {
+      place = number.0;
+      at = number.1;
+      noted = get_or_from_slice_get places name number.0 0 read;
+      inside = slice_get_within places name number.0 read;
+      below = slice_get_within top number.0 name number.1;
+    }

@@ -4,6 +4,6 @@ use Rattle.fs_rauzy.proofs.room.Room.copy.Given as goal
 
 abbrev pub invariant-loop-item : goal.invariant-loop-item
 invariant-loop-item g l = record {
-  items : l.items.items ≡ take l.item-index l.self.items.items;
-  room : vec_capacity l.self.items ≤ vec_capacity l.items;
+  items : l.items.items ≡ take l.item-index l.item-items;
+  room : l.self.room ≤ vec_capacity l.items;
 }
