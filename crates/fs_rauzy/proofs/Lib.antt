@@ -5,6 +5,7 @@ pub mod EventRows
 pub mod EventWeights
 mod EventsInPlace
 mod LastInPlace
+mod LastReads
 pub mod LastLetters
 pub mod LawfulEvents
 pub mod LeftEnds
@@ -24,6 +25,7 @@ mod RowMoves
 mod RowsAround
 pub mod ShortenedComponents
 mod SplitInPlace
+mod SplitSteps
 pub mod SplitPlaces
 pub mod TakenAfter
 mod WonInPlace
