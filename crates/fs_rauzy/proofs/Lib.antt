@@ -1,3 +1,4 @@
+mod ClearedEnds
 pub mod DividedComponents
 mod EventNumbers
 pub mod EventReturns
@@ -5,8 +6,8 @@ pub mod EventRows
 pub mod EventWeights
 mod EventsInPlace
 mod LastInPlace
-mod LastReads
 pub mod LastLetters
+mod LastReads
 pub mod LawfulEvents
 pub mod LeftEnds
 pub mod LetterChanges
@@ -25,8 +26,8 @@ mod RowMoves
 mod RowsAround
 pub mod ShortenedComponents
 mod SplitInPlace
-mod SplitSteps
 pub mod SplitPlaces
+mod SplitSteps
 pub mod TakenAfter
 mod WonInPlace
 mod WonSteps

@@ -1,12 +1,11 @@
 -- The lists before and after the split, and what is computed of them.
-use Rattle.std.proofs.Common.{◌≡◌, ◌⊎◌, ◌<◌, ◌≤◌, ◌∷◌, ◌++◌, ℕ, ◌+◌, ◌-◌, true, false, is_some, List, IfErr, Ok, Err, length, take, drop, get_or, set, sym, ap, ◌∙◌, subst, refl, inl, inr, arith}
+use Rattle.std.proofs.Common.{◌≡◌, ◌⊎◌, ◌<◌, ◌≤◌, ◌∷◌, ℕ, ◌+◌, ◌-◌, true, false, is_some, List, IfErr, length, take, drop, get_or, set, sym, ap, ◌∙◌, subst, refl, inl, inr, arith}
 use Rattle.std.proofs.lemmas.List.{get_or_default, length-set}
 use Rattle.fs_lists.proofs.Results.{at_exit}
-use Rattle.fs_quadratic.specs.Ring.{Quadratic, zero}
+use Rattle.fs_quadratic.specs.Ring.{zero}
 use Rattle.fs_quadratic.proofs.Laws.{field_order}
 use Rattle.fs_gluing.specs.Exchanges.{Letter, IsLawful}
 use Rattle.fs_rauzy.specs.declared.states.State.TheInside.{Inside}
-use Rattle.fs_rauzy.specs.declared.events.Event.{Event}
 use Rattle.fs_rauzy.specs.declared.events.Event.TheVariants.{Split}
 use Rattle.fs_rauzy.specs.declared.rows.Extent.{Extent}
 use Rattle.fs_rauzy.specs.Events.{HasSplit, without_start, without_end}
