@@ -1,10 +1,9 @@
 -- The last names of both rows as they are read: those of the current component, where its last letters differ.
-use Rattle.std.proofs.Common.{◌≡◌, ℕ, ◌+◌, ◌-◌, ◌<◌, List, [], ◌∷◌, ◌++◌, length, get_or, take, drop, refl, sym, ap, ◌∙◌, subst, arith}
+use Rattle.std.proofs.Common.{◌≡◌, ℕ, ◌+◌, ◌-◌, ◌<◌, List, [], ◌∷◌, ◌++◌, length, get_or, take, refl, sym, ap, ◌∙◌, subst, arith}
 use Rattle.std.proofs.lemmas.List.{get_or_push, length-append}
 use Rattle.fs_gluing.specs.Exchanges.{Letter, Component}
 use Rattle.fs_rauzy.specs.declared.rows.Extent.{Extent}
-use Rattle.fs_rauzy.specs.Events.{AreLast}
-use Rattle.fs_rauzy.specs.StatesInPlace.{no_letter, component_at, opened, IsInPlace, AreLastNames}
+use Rattle.fs_rauzy.specs.StatesInPlace.{no_letter, opened, IsInPlace, AreLastNames}
 use Rattle.fs_rauzy.specs.Steps.{AtCurrent, CanCompare}
 use Rattle.fs_rauzy.proofs.EventsInPlace.{place_at, opened_at, current_at}
 use Rattle.fs_rauzy.proofs.LastInPlace.{AreLastInPlace, last_in_place}

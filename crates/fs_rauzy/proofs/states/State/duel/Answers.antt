@@ -1,5 +1,5 @@
 -- What is read are the last names of the current component, and the comparison of their lengths says which call comes next.
-use Rattle.std.proofs.Common.{◌≡◌, ◌<◌, ◌≤◌, ◌-◌, ℕ, length, get_or, sym, ap, ◌∙◌, subst, arith}
+use Rattle.std.proofs.Common.{◌≡◌, ◌<◌, ℕ, length, get_or, sym, ap, ◌∙◌, subst, arith}
 use Rattle.std.proofs.lemmas.List.{get_or_default}
 use Rattle.fs_quadratic.specs.Ring.{Quadratic, IsLess}
 use Rattle.fs_quadratic.proofs.Laws.{field_order}
