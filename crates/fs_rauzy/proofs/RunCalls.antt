@@ -60,11 +60,11 @@ module _ (x now : ProgressValue) (same : x ≡ now) where
 
   -- a loop closes
   pub loop_goes : (saved : Option Saved) (s : Saved) (q : Point) → x.point.saved ≡ checkpoint_in saved → saved ≡ Some s → now.point.looped ≡ true → IsSome now.point.saved
-      → ClosesTo (Looped s.number x.point.number) x.point q → Goes now.d now.point q
+      → ClosesTo (Looped s.number x.point.number) now.point q → Goes now.d now.point q
   loop_goes saved s q is_saved is looped some closes =
       let in_place : now.point.saved ≡ checkpoint_of s.number s.state.components = ap (λ (v : ProgressValue). v.point.saved) (sym same) ∙ is_saved ∙ ap checkpoint_in is in
       let found = checkpoint_number s.number s.state.components (subst IsSome in_place some) in
-      let closes_now : ClosesTo (Looped s.number now.point.number) now.point q = subst (λ (v : ProgressValue). ClosesTo (Looped s.number v.point.number) v.point q) same closes in
+      let closes_now : ClosesTo (Looped s.number now.point.number) now.point q = subst (λ (v : ProgressValue). ClosesTo (Looped s.number v.point.number) now.point q) same closes in
       changes.goes_by_loop now.d now.point q found.0 looped (in_place ∙ found.1) (subst (λ n. ClosesTo (Looped n now.point.number) now.point q) (sym found.2) closes_now)
 
   -- a cylinder closes

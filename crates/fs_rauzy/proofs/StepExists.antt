@@ -91,7 +91,7 @@ module _ {d : ℕ} (L : IsOrderedRing (quadratic d) (IsPositive d)) (c : Compone
       record { outcome = record { event = Won false; length = sub y.length x.length; components = after ∷ rest }; made = wins_below c after rest won; step = refl }
 
   by_merge : x.length ≡ y.length → HasStep d (c ∷ rest)
-  by_merge equal =
+  by_merge same =
       let after : Component = record {
         base = c.base;
         total = sub c.total x.length;
@@ -101,7 +101,7 @@ module _ {d : ℕ} (L : IsOrderedRing (quadratic d) (IsPositive d)) (c : Compone
       let put : IsPutInPlace x.name y.name c.bottom after.bottom
       = record { left = a.left; right = a.right; was = around_before x.name y.name last.before_bottom c.bottom last.bottom a; becomes = refl } in
       let merged : IsMerged c after (connection y x)
-      = record { x = x; y = y; last = last; equal = equal; base = refl; sum = refl; top = refl; bottom = put; connected = refl } in
+      = record { x = x; y = y; last = last; equal = same; base = refl; sum = refl; top = refl; bottom = put; connected = refl } in
       record { outcome = record { event = Merged (connection y x); length = y.length; components = after ∷ rest }; made = merges c after rest (connection y x) merged; step = refl }
 
   step_exists : HasStep d (c ∷ rest)
