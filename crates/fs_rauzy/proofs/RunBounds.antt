@@ -1,9 +1,8 @@
 -- The numbers of a run: they are in bounds, and each event lessens the steps left or the weight of the open components.
-use Rattle.std.proofs.Common.{◌≡◌, ◌⊎◌, ℕ, ◌+◌, ◌-◌, ◌*◌, ◌<◌, ◌≤◌, Bool, true, false, cond, Option, Some, None, IsSome, List, [], ◌∷◌, ◌++◌, length, refl, sym, ap, ◌∙◌, subst, inl, inr, arith, length-append}
+use Rattle.std.proofs.Common.{◌≡◌, ℕ, ◌+◌, ◌-◌, ◌*◌, ◌<◌, ◌≤◌, Bool, true, false, cond, Option, Some, IsSome, List, [], ◌∷◌, ◌++◌, length, refl, sym, ap, subst, inl, inr, arith, length-append}
 use Rattle.std.proofs.lemmas.List.{length-map}
 use Rattle.fs_ring.specs.OrderedRing.{IsOrderedRing}
 use Rattle.fs_quadratic.specs.Radicand.{IsRadicand}
-use Rattle.fs_quadratic.specs.Ring as ring
 use Rattle.fs_quadratic.specs.Ring.{quadratic, IsPositive}
 use Rattle.fs_gluing.specs.Exchanges.{Letter, Component, names_of}
 use Rattle.fs_rauzy.specs.declared.events.Event.{Event}
@@ -13,14 +12,14 @@ use Rattle.fs_rauzy.specs.declared.parts.Part.{Part}
 use Rattle.fs_rauzy.specs.Events.{Outcome, Makes}
 use Rattle.fs_rauzy.specs.Measures.{weight, weight_taken}
 use Rattle.fs_rauzy.specs.Rule.{is_step}
-use Rattle.fs_rauzy.specs.Runs.{Point, Checkpoint, first_checkpoint, start_of, begun, won_on, is_numbered, event_number, Goes, Leads, no_event, event}
+use Rattle.fs_rauzy.specs.Runs.{Point, Checkpoint, first_checkpoint, start_of, begun, event_number, Goes, Leads, no_event, event}
 use Rattle.fs_rauzy.specs.RunsInPlace.{CanGo}
 use Rattle.fs_rauzy.specs.States.{IsState, open_names}
 use Rattle.fs_rauzy.specs.Steps.{IsOpen}
 use Rattle.fs_quadratic.proofs.Laws.{field_order}
 use Rattle.fs_rauzy.proofs.EventNumbers.{one_more_event}
 use Rattle.fs_rauzy.proofs.EventWeights.{event_weight}
-use Rattle.fs_rauzy.proofs.RunSteps.{WinsTo, Becomes, ClosesLoop, StepsTo, AfterEvent, goes_cases, after_open, closing, loop_makes, goes_makes}
+use Rattle.fs_rauzy.proofs.RunSteps.{Becomes, AfterEvent, goes_cases, after_open, closing, loop_makes}
 use Rattle.fs_rauzy.proofs.RunUnique.{after_steps, led_state}
 
 -- ---- events in the list
@@ -101,13 +100,13 @@ module _ {d : ℕ} (L : IsOrderedRing (quadratic d) (IsPositive d)) (most : ℕ)
     | inl h ↦
         let o = closing h.1.rest in
         counted false (event_number p.events) (event_number q.events) p.steps q.steps (weight p.components) (weight q.components) most
-          (one_more_event p.events q.events (logged_of o) (ap (λ (x : Point). x.events) h.1.becomes)) (ap (λ (x : Point). x.steps) h.1.becomes)
-          (weight_after o (loop_makes d p q h.1) (ap (λ (x : Point). x.components) h.1.becomes)) few
+        (one_more_event p.events q.events (logged_of o) (ap (λ (x : Point). x.events) h.1.becomes)) (ap (λ (x : Point). x.steps) h.1.becomes)
+        (weight_after o (loop_makes d p q h.1) (ap (λ (x : Point). x.components) h.1.becomes)) few
     | inr h ↦
         let o = h.1.outcome in
         counted (is_step o.event) (event_number p.events) (event_number q.events) p.steps q.steps (weight p.components) (weight q.components) most
-          (one_more_event p.events q.events (logged_of o) (after_events d p o o.event q h.1.after)) (after_steps d p o o.event q refl h.1.after)
-          (weight_after o h.1.made.next.made (after_open d p o o.event q h.1.after)) few
+        (one_more_event p.events q.events (logged_of o) (after_events d p o o.event q h.1.after)) (after_steps d p o o.event q refl h.1.after)
+        (weight_after o h.1.made.next.made (after_open d p o o.event q h.1.after)) few
   ]
 
   goes_saved : p.number ≤ p.steps → Goes d p q → (IsOpen q.components → IsSome q.saved) × (q.number ≤ q.steps)
@@ -129,11 +128,11 @@ module _ {d : ℕ} (L : IsOrderedRing (quadratic d) (IsPositive d)) (most : ℕ)
     | inl h ↦
         let o = closing h.1.rest in
         smaller false n p.steps q.steps (weight p.components) (weight q.components) within (ap (λ (x : Point). x.steps) h.1.becomes)
-          (weight_after o (loop_makes d p q h.1) (ap (λ (x : Point). x.components) h.1.becomes))
+        (weight_after o (loop_makes d p q h.1) (ap (λ (x : Point). x.components) h.1.becomes))
     | inr h ↦
         let o = h.1.outcome in
         smaller (is_step o.event) n p.steps q.steps (weight p.components) (weight q.components) within (after_steps d p o o.event q refl h.1.after)
-          (weight_after o h.1.made.next.made (after_open d p o o.event q h.1.after))
+        (weight_after o h.1.made.next.made (after_open d p o o.event q h.1.after))
   ]
 
 -- ---- along a run

@@ -1,10 +1,10 @@
 -- The calls on a run under way, by the values that they see: x is what its fields say, and now its value.
-use Rattle.std.proofs.Common.{◌≡◌, ℕ, ◌+◌, ◌<◌, ◌≤◌, Bool, true, false, cond, Option, Some, None, IsSome, Result, Ok, Err, OnOk, IfErr, List, [], ◌∷◌, ◌++◌, reverse, refl, sym, ap, ◌∙◌, subst, arith}
+use Rattle.std.proofs.Common.{◌≡◌, ℕ, ◌+◌, ◌<◌, ◌≤◌, Bool, true, false, Option, Some, IsSome, Result, Ok, Err, OnOk, IfErr, List, [], ◌∷◌, ◌++◌, reverse, refl, sym, ap, ◌∙◌, subst}
 use Rattle.std.proofs.lemmas.List.{reverse-append}
 use Rattle.fs_quadratic.specs.declared.steps.Place.{Place}
 use Rattle.fs_plane.specs.declared.sites.Site.TheVariants as sites
 use Rattle.fs_plane.specs.declared.sites.Stop.{Stop}
-use Rattle.fs_plane.specs.declared.sites.Stop.TheVariants.{Undecided, Overflow, NoMemory}
+use Rattle.fs_plane.specs.declared.sites.Stop.TheVariants.{Undecided, Overflow}
 use Rattle.std.specs.List.{AllByRecursion}
 use Rattle.fs_quadratic.proofs.Laws.{field_order}
 use Rattle.fs_gluing.specs.Exchanges.{Component, IsLawful}
@@ -18,7 +18,7 @@ use Rattle.fs_rauzy.specs.declared.parts.Part.{Part}
 use Rattle.fs_rauzy.specs.declared.states.Choice.TheVariants as choices
 use Rattle.fs_rauzy.specs.Events.{Outcome}
 use Rattle.fs_rauzy.specs.Rule.{IsNext, is_step}
-use Rattle.fs_rauzy.specs.Runs.{Point, Checkpoint, part_of, is_numbered, event_number, BeginsAnew, Goes}
+use Rattle.fs_rauzy.specs.Runs.{Point, Checkpoint, part_of, event_number, BeginsAnew, Goes}
 use Rattle.fs_rauzy.specs.RunsInPlace.{ProgressValue, noted, renumbered, checkpoint_of, checkpoint_in, ClosesTo, IsCompared, LooksBack, OverflowsWhere, budget_spent, StopsRun, CanGo}
 use Rattle.fs_rauzy.specs.StatesInPlace.{IsChoice}
 use Rattle.fs_rauzy.specs.Steps.{AtCurrent, SplitsAt, IsMadeBy, IsStoppedBy}

@@ -1,9 +1,7 @@
 -- What the calls on a run under way do with its point: it goes on, or it ends there.
-use Rattle.std.proofs.Common.{◌≡◌, ◌⊎◌, ℕ, ◌+◌, ◌<◌, ◌≤◌, Bool, true, false, cond, Option, Some, None, Result, Ok, Err, List, [], ◌∷◌, ◌++◌, length, refl, sym, ap, ◌∙◌, subst, inl, inr, arith}
+use Rattle.std.proofs.Common.{◌≡◌, ℕ, ◌+◌, ◌<◌, ◌≤◌, Bool, true, false, cond, Option, Some, Result, Ok, Err, List, [], ◌∷◌, ◌++◌, length, refl, sym, ap, ◌∙◌, subst, inl, inr, arith}
 use Rattle.std.proofs.lemmas.List.{append-nil}
-use Rattle.fs_quadratic.specs.Ring as ring
 use Rattle.fs_quadratic.specs.declared.steps.Place.{Place}
-use Rattle.fs_plane.specs.declared.sites.Site.{Site}
 use Rattle.fs_plane.specs.declared.sites.Site.TheVariants as sites
 use Rattle.fs_plane.specs.declared.sites.Stop.{Stop}
 use Rattle.fs_plane.specs.declared.sites.Stop.TheVariants.{Undecided, Overflow, NoMemory}
@@ -16,8 +14,8 @@ use Rattle.fs_rauzy.specs.declared.parts.Logged.{Logged}
 use Rattle.fs_rauzy.specs.declared.parts.Part.{Part}
 use Rattle.fs_rauzy.specs.declared.states.Choice.TheVariants as choices
 use Rattle.fs_rauzy.specs.Events.{Outcome, Makes}
-use Rattle.fs_rauzy.specs.Rule.{FollowsRule, IsNext, IsMade, StopsAt, Tests, is_step}
-use Rattle.fs_rauzy.specs.Runs.{Point, Checkpoint, IsSaved, part_of, begun, won_on, found_by, event_number, BeginsAnew, IsMadeAt, ComparesAt, Goes, closes_loop, closes_cylinder, begins_anew, finds_loop, wins, wins_and_saves}
+use Rattle.fs_rauzy.specs.Rule.{FollowsRule, IsMade, Tests, is_step}
+use Rattle.fs_rauzy.specs.Runs.{Point, Checkpoint, part_of, begun, won_on, found_by, event_number, BeginsAnew, IsMadeAt, ComparesAt, Goes, closes_loop, closes_cylinder, begins_anew, finds_loop, wins, wins_and_saves}
 use Rattle.fs_rauzy.specs.RunsInPlace.{noted, renumbered, checkpoint_of, ClosesTo, IsCompared, LooksTo, LooksBack, OverflowsWhere, EndsAt, event_stops, comparison_stops, StopsRun}
 use Rattle.fs_rauzy.specs.StatesInPlace.{IsChoice}
 use Rattle.fs_rauzy.specs.Steps.{AtCurrent, SplitsAt, IsMadeBy, IsStoppedBy}
@@ -164,7 +162,7 @@ pub split_stops : (d k : ℕ) (p : Point) (stop : Place) → p.looped ≡ false 
     → StopsRun d n p (Overflow (sites.Event (event_number p.events) stop.0))
 split_stops d k p stop going choice s n few =
     event_stops stop few going (record { outcome = s.outcome; next = record { made = s.made; by_rule = split_by_rule k p.components s.outcome.event choice s.kind }; overflows = s.overflows })
-    (λ step. absurd (no_step (ap is_step s.kind.1 ) step))
+    (λ step. absurd (no_step (ap is_step s.kind.1) step))
   where
     no_step : {b : Bool} → b ≡ false → b ≡ true → ⊥
     no_step e f = absurd cc

@@ -1,5 +1,5 @@
 -- The next point of a run: what the next event makes of a point, and that it makes one thing of it.
-use Rattle.std.proofs.Common.{◌≡◌, ◌⊎◌, ℕ, ◌+◌, ◌≤◌, Bool, true, false, cond, Option, Some, None, Result, Ok, Err, List, [], ◌∷◌, ◌++◌, refl, sym, ap, ◌∙◌, subst, inl, inr, arith}
+use Rattle.std.proofs.Common.{◌≡◌, ◌⊎◌, ℕ, ◌+◌, Bool, true, false, Some, Result, Ok, List, ◌∷◌, refl, sym, ap, ◌∙◌, subst, inl, inr}
 use Rattle.fs_lists.proofs.Results.{ok_equal}
 use Rattle.fs_ring.specs.OrderedRing.{IsOrderedRing}
 use Rattle.fs_quadratic.specs.Ring as ring
@@ -9,12 +9,10 @@ use Rattle.fs_gluing.specs.Exchanges.{Component}
 use Rattle.fs_rauzy.specs.declared.events.Event.{Event}
 use Rattle.fs_rauzy.specs.declared.events.Event.TheVariants.{Won, Merged, Split, Closed}
 use Rattle.fs_rauzy.specs.declared.parts.Kind.TheVariants.{Cylinder, Looped}
-use Rattle.fs_rauzy.specs.declared.parts.Logged.{Logged}
-use Rattle.fs_rauzy.specs.declared.parts.Part.{Part}
 use Rattle.fs_rauzy.specs.Comparisons.{IsComparison, other_rows, equal_rows}
 use Rattle.fs_rauzy.specs.Events.{Outcome, Makes}
-use Rattle.fs_rauzy.specs.Rule.{IsMade, is_step}
-use Rattle.fs_rauzy.specs.Runs.{Point, Checkpoint, IsSaved, part_of, begun, won_on, BeginsAnew, IsMadeAt, ComparesAt, Goes, closes_loop, closes_cylinder, begins_anew, finds_loop, wins, wins_and_saves}
+use Rattle.fs_rauzy.specs.Rule.{IsMade}
+use Rattle.fs_rauzy.specs.Runs.{Point, Checkpoint, IsSaved, part_of, begun, won_on, BeginsAnew, Goes, closes_loop, closes_cylinder, begins_anew, finds_loop, wins, wins_and_saves}
 use Rattle.fs_rauzy.specs.States.{IsState}
 use Rattle.fs_rauzy.proofs.OutcomeUnique.{next_unique}
 
@@ -106,17 +104,59 @@ goes_cases d p _ (closes_cylinder o c rest made event components) =
     inr (made.going, record { outcome = o; made = made.made; after = subst (λ x. AfterEvent d p o x (begun p o (part_of c Cylinder ∷ p.parts))) (sym event) closes })
 goes_cases d p _ (begins_anew o made anew) = inr (made.going, record { outcome = o; made = made.made; after = begins d p o o.event anew })
 goes_cases d p _ (finds_loop o c saved k) =
-    inr (k.made.going, record { outcome = o; made = k.made.made; after = after_won d p o k.top _ k.event (record {
-      component = c; rest = k.rest; components = k.components; saved = saved; saved_before = k.saved_before; same = true; compared = k.compared; becomes = refl;
-    }) })
+    inr (
+      k.made.going,
+      record {
+        outcome = o;
+        made = k.made.made;
+        after = after_won d p o k.top _ k.event (record {
+          component = c;
+          rest = k.rest;
+          components = k.components;
+          saved = saved;
+          saved_before = k.saved_before;
+          same = true;
+          compared = k.compared;
+          becomes = refl;
+        });
+      },
+    )
 goes_cases d p _ (wins o c saved k not_saved) =
-    inr (k.made.going, record { outcome = o; made = k.made.made; after = after_won d p o k.top _ k.event (record {
-      component = c; rest = k.rest; components = k.components; saved = saved; saved_before = k.saved_before; same = false; compared = k.compared; becomes = inr (not_saved, refl);
-    }) })
+    inr (
+      k.made.going,
+      record {
+        outcome = o;
+        made = k.made.made;
+        after = after_won d p o k.top _ k.event (record {
+          component = c;
+          rest = k.rest;
+          components = k.components;
+          saved = saved;
+          saved_before = k.saved_before;
+          same = false;
+          compared = k.compared;
+          becomes = inr (not_saved, refl);
+        });
+      },
+    )
 goes_cases d p _ (wins_and_saves o c saved k is_saved) =
-    inr (k.made.going, record { outcome = o; made = k.made.made; after = after_won d p o k.top _ k.event (record {
-      component = c; rest = k.rest; components = k.components; saved = saved; saved_before = k.saved_before; same = false; compared = k.compared; becomes = inl (is_saved, refl);
-    }) })
+    inr (
+      k.made.going,
+      record {
+        outcome = o;
+        made = k.made.made;
+        after = after_won d p o k.top _ k.event (record {
+          component = c;
+          rest = k.rest;
+          components = k.components;
+          saved = saved;
+          saved_before = k.saved_before;
+          same = false;
+          compared = k.compared;
+          becomes = inl (is_saved, refl);
+        });
+      },
+    )
 
 -- ---- one next point
 

@@ -8,8 +8,8 @@ use Rattle.fs_gluing.specs.Exchanges.{Component}
 use Rattle.fs_rauzy.specs.declared.parts.Run.{Run}
 use Rattle.fs_rauzy.specs.Measures.{weight}
 use Rattle.fs_rauzy.specs.Runs as runs
-use Rattle.fs_rauzy.specs.Runs.{Point, start_of, Goes, Leads, EndsRun, ReturnsRun, ArePartsAscending}
-use Rattle.fs_rauzy.specs.RunsInPlace.{ProgressValue, EndsAt, all_closed, StopsRun, CanGo}
+use Rattle.fs_rauzy.specs.Runs.{start_of, Goes, Leads, EndsRun, ReturnsRun, ArePartsAscending}
+use Rattle.fs_rauzy.specs.RunsInPlace.{ProgressValue, all_closed, StopsRun, CanGo}
 use Rattle.fs_rauzy.specs.States.{StateValue, IsState}
 use Rattle.fs_rauzy.specs.Steps.{IsOpen}
 use Rattle.fs_rauzy.proofs.AscendingBases.{run_ascending}

@@ -1,10 +1,9 @@
 -- A component whose last letters differ has a next event that is a step, whether or not its numbers fit.
-use Rattle.std.proofs.Common.{◌≡◌, ◌≢◌, ◌⊎◌, ℕ, true, false, List, [], ◌∷◌, ◌++◌, refl, sym, ap, ◌∙◌, subst, inl, inr, append_assoc}
+use Rattle.std.proofs.Common.{◌≡◌, ◌≢◌, ℕ, true, false, List, [], ◌∷◌, ◌++◌, refl, sym, ap, ◌∙◌, subst, inl, inr, append_assoc}
 use Rattle.fs_lists.specs.Members.{IsIn}
 use Rattle.fs_lists.proofs.Members.{in_map, in_append_cases}
-use Rattle.fs_ring.specs.OrderedRing.{IsOrderedRing, Comparison, less, equal, greater}
+use Rattle.fs_ring.specs.OrderedRing.{IsOrderedRing, less, equal, greater}
 use Rattle.fs_ring.proofs.Order as order
-use Rattle.fs_quadratic.specs.Ring as ring
 use Rattle.fs_quadratic.specs.Ring.{quadratic, IsPositive, IsLess, sub}
 use Rattle.fs_gluing.specs.Exchanges.{Letter, Component, IsLawful}
 use Rattle.fs_iet.proofs.LetterRows.{name_in_bottom}

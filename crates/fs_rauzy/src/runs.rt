@@ -5,7 +5,6 @@ ghost use Rattle.fs_quadratic.specs.Radicand.{IsRadicand};
 ghost use Rattle.fs_plane.specs.declared.sites.Site.TheVariants as sites;
 ghost use Rattle.fs_plane.specs.declared.sites.Stop.{Stop};
 ghost use Rattle.fs_rauzy.specs.declared.parts.Run.{Run};
-ghost use Rattle.fs_rauzy.specs.Rule.{StopsAt, is_step};
 ghost use Rattle.fs_rauzy.specs.Runs.{EndsRun, ReturnsRun, ArePartsAscending, Goes, start_of, event_number};
 ghost use Rattle.fs_rauzy.specs.RunsInPlace.{ClosesTo, LooksBack, IsCompared, OverflowsWhere, StopsRun, CanGo, noted, renumbered, saved_now};
 ghost use Rattle.fs_rauzy.specs.States.{IsState};
@@ -72,8 +71,19 @@ impl Model for Progress {
 
     ghost Value = { ProgressValue };
 
-    ghost view = { λ x. record { d = x.state.d; point = record { components = x.state.components; number = x.number; saved = checkpoint_in x.saved; looped = x.looped;
-        steps = x.steps; events = x.events.items; parts = reverse x.parts.items; found = x.found.items } } };
+    ghost view = { λ x. record {
+      d = x.state.d;
+      point = record {
+        components = x.state.components;
+        number = x.number;
+        saved = checkpoint_in x.saved;
+        looped = x.looped;
+        steps = x.steps;
+        events = x.events.items;
+        parts = reverse x.parts.items;
+        found = x.found.items;
+      };
+    } };
 
     ghost invariant = { λ x. x.numbered ≡ event_number x.events.items };
 }

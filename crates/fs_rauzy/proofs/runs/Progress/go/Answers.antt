@@ -1,5 +1,5 @@
 -- A cylinder closes, or the budget is spent.
-use Rattle.std.proofs.Common.{◌≡◌, ap}
+use Rattle.std.proofs.Common.{ap}
 use Rattle.fs_rauzy.specs.States.{StateValue}
 use Rattle.fs_rauzy.proofs.RunCalls.{cylinder_goes, budget_stops}
 use Rattle.fs_rauzy.proofs.runs.Progress.go.Goals as goal
