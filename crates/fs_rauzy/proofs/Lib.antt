@@ -1,17 +1,52 @@
+mod AlikeComponents
 pub mod AscendingBases
-pub mod EventNumbers
+pub mod BasesKept
+pub mod BasesMet
+mod ChosenEvents
+mod ClosedInPlace
+pub mod DividedBases
+pub mod DividedComponents
+mod EventNumbers
+pub mod EventReturns
 pub mod EventRows
 pub mod EventWeights
+mod EventsInPlace
+mod ExchangeInPlace
+mod LastInPlace
 pub mod LastLetters
 pub mod LawfulEvents
+pub mod LeftEnds
 pub mod LetterChanges
+mod ListsSoFar
+mod MergedInPlace
+mod MergedSteps
+pub mod NameRows
+pub mod NamedLetters
+pub mod NumberedEvents
+pub mod OpenedRows
 pub mod OutcomeUnique
+mod Pending
+mod Places
+mod PowersOfTwo
+mod Prefixes
 pub mod RowEnds
+pub mod RowIntervals
+mod RowMoves
+mod RowsAround
 pub mod RunBounds
 pub mod RunCalls
 pub mod RunChanges
 pub mod RunSteps
 pub mod RunUnique
 pub mod RunsUnderWay
+mod SearchedRows
+pub mod ShortenedComponents
+mod SplitInPlace
 pub mod SplitPlaces
 pub mod StepExists
+pub mod TakenAfter
+pub mod TouchedKept
+pub mod TowersKept
+mod WonInPlace
+mod WonSteps
+mod WrittenLetters

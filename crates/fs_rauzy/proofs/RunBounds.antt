@@ -17,7 +17,7 @@ use Rattle.fs_rauzy.specs.RunsInPlace.{CanGo}
 use Rattle.fs_rauzy.specs.States.{IsState, open_names}
 use Rattle.fs_rauzy.specs.Steps.{IsOpen}
 use Rattle.fs_quadratic.proofs.Laws.{field_order}
-use Rattle.fs_rauzy.proofs.EventNumbers.{one_more_event}
+use Rattle.fs_rauzy.proofs.NumberedEvents.{one_more_event}
 use Rattle.fs_rauzy.proofs.EventWeights.{event_weight}
 use Rattle.fs_rauzy.proofs.RunSteps.{Becomes, AfterEvent, goes_cases, after_open, closing, loop_makes}
 use Rattle.fs_rauzy.proofs.RunUnique.{after_steps, led_state}

@@ -1,4 +1,5 @@
 pub mod Comparisons
+pub mod Cylinders
 pub mod Events
 pub mod FirstReturns
 pub mod Loops
@@ -11,3 +12,4 @@ pub mod SplitsInPlace
 pub mod States
 pub mod StatesInPlace
 pub mod Steps
+pub mod Towers

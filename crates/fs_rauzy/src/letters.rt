@@ -2,7 +2,7 @@
 
 ghost use Rattle.std.specs.Prelude.{◌≡◌, ◌<◌, ◌≤◌, IfOk, length, slice_set, slice_index_or};
 ghost use Rattle.fs_gluing.specs.Exchanges as exchanges;
-ghost use Rattle.fs_iet.specs.ExchangeValue.{most_letters};
+ghost use Rattle.fs_iet.specs.ExchangeValue.{IsExchangeValue};
 ghost use Rattle.fs_rauzy.specs.Events.{without_start, without_end, won_over, lost_below, lost_above, merged_of};
 ghost use Rattle.fs_rauzy.specs.StatesInPlace.{no_letter};
 
@@ -46,7 +46,8 @@ pub fn read_letters(alloc: Global, exchange: &Exchange) -> Result<Vec<Interval>,
 
 // Letter n of an exchange.
 fn read_letter(exchange: &Exchange, n: u32) -> Interval
-    requires { n < length exchange.now.component.top }
+    requires inside { n < length exchange.now.component.top }
+    requires kept { IsExchangeValue exchange.now }
     ensures { result ≡ slice_index_or exchange.now.component.top n no_letter }
 {
     Interval {

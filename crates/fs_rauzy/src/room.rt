@@ -64,7 +64,8 @@ impl<T: Copy + Drop> Room<T> {
         ensures items { self.new.items ≡ item ∷ self.old.items }
         ensures room { self.new.room ≡ self.old.room }
     {
-        if self.items.push(item).is_err() {
+        // An insert where there is room keeps it.
+        if self.items.insert(self.items.len(), item).is_err() {
             unreachable!()
         }
     }

@@ -20,7 +20,7 @@ pub fn find_greatest(top: &[u32], bottom: &[u32], places: &mut [u32]) -> Option<
 {
     note_places(top, places);
     let mut greatest = None;
-    let mut end = 0;
+    let mut end = 0u32;
     for (n, &name) in bottom.iter().enumerate() {
         end = end.max(places[name as usize] + 1);
         let next = n as u32 + 1;

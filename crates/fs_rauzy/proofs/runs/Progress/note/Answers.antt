@@ -1,6 +1,6 @@
 -- The number of events is that of the list.
 use Rattle.std.proofs.Common.{sym, ap, ◌+◌, ◌∙◌}
-use Rattle.fs_rauzy.proofs.EventNumbers.{closing_number, other_number}
+use Rattle.fs_rauzy.proofs.NumberedEvents.{closing_number, other_number}
 use Rattle.fs_rauzy.proofs.runs.Progress.note.Goals as goal
 
 pub invariant_of-self-in-Continue-branch-2 : goal.invariant_of-self-in-Continue-branch-2
