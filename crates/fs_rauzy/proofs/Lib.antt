@@ -1,3 +1,4 @@
+pub mod CylinderReturns
 pub mod DividedComponents
 pub mod EventReturns
 pub mod EventRows
