@@ -1,4 +1,6 @@
+pub mod CylinderFloors
 pub mod CylinderReturns
+pub mod CylinderSides
 pub mod DividedComponents
 pub mod EventReturns
 pub mod EventRows
