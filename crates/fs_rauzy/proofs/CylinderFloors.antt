@@ -64,7 +64,8 @@ module _ (s : GluedPolygons) (surface : IsTranslationSurface s) (v : PlaneVector
   floor_beyond {q} {z} {g} {f} p c =
       floor_or_first (p.number + 1) z (add_vector (quadratic s.d) p.vector g) (orbit_join s v p.number 1 x q z p.vector g p.orbit (orbit_of_crossing s v c)) (next_or_last p.number m p.below)
 
-  step_of_crossing : {q z : Quadratic} {g : PlaneVector} {f : Corner} → IsFloor s v x m q → Crosses s v q z g f → IsStep s v x width m q z f
+  -- each crossing from a floor is a step
+  pub step_of_crossing : {q z : Quadratic} {g : PlaneVector} {f : Corner} → IsFloor s v x m q → Crosses s v q z g f → IsStep s v x width m q z f
   step_of_crossing {q} {z} {g} {f} p c = record {
     from = p;
     to = floor_beyond p c;

@@ -36,11 +36,12 @@ name_of_one : (letters : List Letter) (letter : Letter) → letters ≡ letter �
 name_of_one letters letter one name h = elim (subst (λ (ls : List Letter). IsIn name (names_of ls)) one h) [ inl e ↦ e | inr k ↦ absurd k ]
 
 module _ {d : ℕ} (L : IsOrderedRing (quadratic d) (IsPositive d)) {c : Component} (lawful : IsLawful d c) {letter : Letter} (one : c.top ≡ letter ∷ []) where
-  letter_there : IsIn letter c.top
+  -- the letter is in the top row
+  pub letter_there : IsIn letter c.top
   letter_there = subst (IsIn letter) (sym one) (inl refl)
 
   -- the letter begins where the component does, and ends where that does
-  one_on_top : (top_left c letter.name ≡ c.base) × (add c.base c.total ≡ add c.base letter.length)
+  pub one_on_top : (top_left c letter.name ≡ c.base) × (add c.base c.total ≡ add c.base letter.length)
   one_on_top =
       subst (λ (letters : List Letter). Tiles (quadratic d) (λ letter. top_left c letter.name) (λ letter. letter.length) c.base letters (add c.base c.total)) one
       (top_tiles L lawful)

@@ -1,3 +1,6 @@
+pub mod ClosedComponents
+pub mod CornerSides
+pub mod CylinderDirections
 pub mod CylinderFloors
 pub mod CylinderReturns
 pub mod CylinderSides
@@ -9,11 +12,13 @@ pub mod LastLetters
 pub mod LawfulEvents
 pub mod LeftEnds
 pub mod LetterChanges
+pub mod LinePassages
 pub mod NameRows
 pub mod NamedLetters
 pub mod OutcomeUnique
 pub mod RowEnds
 pub mod RowIntervals
+pub mod ShiftedLines
 pub mod ShortenedComponents
 pub mod SplitPlaces
 pub mod TakenAfter
