@@ -3,7 +3,13 @@ pub mod AscendingBases
 pub mod BasesKept
 pub mod BasesMet
 mod ChosenEvents
+pub mod ClosedComponents
 mod ClosedInPlace
+pub mod CornerSides
+pub mod CylinderDirections
+pub mod CylinderFloors
+pub mod CylinderReturns
+pub mod CylinderSides
 pub mod DividedBases
 pub mod DividedComponents
 mod EventNumbers
@@ -17,6 +23,7 @@ pub mod LastLetters
 pub mod LawfulEvents
 pub mod LeftEnds
 pub mod LetterChanges
+pub mod LinePassages
 mod ListsSoFar
 mod MergedInPlace
 mod MergedSteps
@@ -25,7 +32,6 @@ pub mod NamedLetters
 pub mod NumberedEvents
 pub mod OpenedRows
 pub mod OutcomeUnique
-mod Pending
 mod Places
 mod PowersOfTwo
 mod Prefixes
@@ -40,6 +46,7 @@ pub mod RunSteps
 pub mod RunUnique
 pub mod RunsUnderWay
 mod SearchedRows
+pub mod ShiftedLines
 pub mod ShortenedComponents
 mod SplitInPlace
 pub mod SplitPlaces
