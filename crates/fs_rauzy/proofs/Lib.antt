@@ -19,6 +19,7 @@ pub mod EventWeights
 mod EventsInPlace
 mod ExchangeInPlace
 mod LastInPlace
+mod LastReads
 pub mod LastLetters
 pub mod LawfulEvents
 pub mod LeftEnds
@@ -49,6 +50,7 @@ mod SearchedRows
 pub mod ShiftedLines
 pub mod ShortenedComponents
 mod SplitInPlace
+mod SplitSteps
 pub mod SplitPlaces
 pub mod StepExists
 pub mod TakenAfter
