@@ -19,8 +19,8 @@ pub mod EventWeights
 mod EventsInPlace
 mod ExchangeInPlace
 mod LastInPlace
-mod LastReads
 pub mod LastLetters
+mod LastReads
 pub mod LawfulEvents
 pub mod LeftEnds
 pub mod LetterChanges
@@ -50,8 +50,8 @@ mod SearchedRows
 pub mod ShiftedLines
 pub mod ShortenedComponents
 mod SplitInPlace
-mod SplitSteps
 pub mod SplitPlaces
+mod SplitSteps
 pub mod StepExists
 pub mod TakenAfter
 pub mod TouchedKept
