@@ -33,6 +33,7 @@ pub mod NamedLetters
 pub mod NumberedEvents
 pub mod OpenedRows
 pub mod OutcomeUnique
+pub mod PairedSums
 mod Places
 mod PowersOfTwo
 mod Prefixes
