@@ -3,6 +3,7 @@ pub mod AscendingBases
 pub mod BasesKept
 pub mod BasesMet
 mod ChosenEvents
+mod ClearedEnds
 pub mod ClosedComponents
 mod ClosedInPlace
 pub mod CornerSides

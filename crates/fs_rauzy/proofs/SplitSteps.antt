@@ -1,5 +1,5 @@
 -- The call that makes a split: from what its callees give, the event and the lists after it; or where it overflows.
-use Rattle.std.proofs.Common.{◌≡◌, ◌⊎◌, ℕ, ◌+◌, ◌<◌, Bool, true, false, is_some, if◌then◌else◌, Result, Ok, Err, List, [], ◌∷◌, length, map, get_or, set, take, drop, refl, sym, ap, ◌∙◌, subst, inl, inr, arith}
+use Rattle.std.proofs.Common.{◌≡◌, ◌⊎◌, ℕ, ◌+◌, Bool, true, false, is_some, if◌then◌else◌, Result, Ok, Err, List, ◌∷◌, map, get_or, set, take, drop, refl, sym, ap, ◌∙◌, subst, inl, inr}
 use Rattle.std.proofs.lemmas.List.{take-map}
 use Rattle.fs_ring.specs.OrderedRing.{IsOrderedRing}
 use Rattle.fs_quadratic.specs.Checked.{◌>>=◌}
