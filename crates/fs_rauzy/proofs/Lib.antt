@@ -1,6 +1,7 @@
 mod AlikeComponents
 mod ChosenEvents
 mod ClosedInPlace
+mod ComparedRows
 pub mod EventRows
 pub mod EventWeights
 mod ExchangeInPlace
