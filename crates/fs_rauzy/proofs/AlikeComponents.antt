@@ -45,10 +45,10 @@ proportion_tells d earlier now n (before ∷ befores) (after ∷ afters) =
     let q = mul d before.length now in
     let rest = checked_proportion d earlier now (n + 1) befores afters in
     after_step (7 + 2 * n) (is_fitting_mul d after.length earlier) p (λ p. checked_product d (8 + 2 * n) before.length now >>= (λ q. cond (is_same_number p q) rest (Ok false))) P
-      (after_step (8 + 2 * n) (is_fitting_mul d before.length now) q (λ q. cond (is_same_number p q) rest (Ok false)) P
-        (if_same p q rest P
-          (λ e. more d earlier now before after befores afters rest e (proportion_tells d earlier now (n + 1) befores afters))
-          (λ other. (λ h. absurd (false_true h), λ all. absurd (other (all 0 before after refl refl))))))
+    (after_step (8 + 2 * n) (is_fitting_mul d before.length now) q (λ q. cond (is_same_number p q) rest (Ok false)) P
+    (if_same p q rest P
+    (λ e. more d earlier now before after befores afters rest e (proportion_tells d earlier now (n + 1) befores afters))
+    (λ other. (λ h. absurd (false_true h), λ all. absurd (other (all 0 before after refl refl))))))
   where
     false_true : false ≡ true → ⊥
     false_true h = cc

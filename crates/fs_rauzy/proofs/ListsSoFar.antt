@@ -1,5 +1,5 @@
 -- Lists that a loop makes item by item: one item more.
-use Rattle.std.proofs.Common.{◌≡◌, ℕ, zero, suc, ◌+◌, ◌<◌, Some, List, [], ◌∷◌, ◌++◌, length, take, map, reverse, set, get_or, refl, sym, ap, ◌∙◌, arith, zero-add, add-one}
+use Rattle.std.proofs.Common.{◌≡◌, ℕ, zero, suc, ◌+◌, ◌-◌, ◌<◌, Some, List, [], ◌∷◌, ◌++◌, length, take, reverse, set, get_or, sym, ap, ◌∙◌, arith, zero-add, add-one}
 use Rattle.std.proofs.lemmas.List.{take_more, get_or-map, length-append, reverse-append, reverse-reverse, set_at}
 use Rattle.std.proofs.lemmas.List.FromFn.{get_or-range_with_len}
 use Rattle.std.proofs.lemmas.Option.{slice_get-get_or, slice_get_within, get_or_from_slice_get}
@@ -40,7 +40,7 @@ letter_read letters n read inside named name len back corner start end =
     }
 
 -- a list that is seen from its end, with another last item
-pub reverse-set_last : {X : Type 0} (xs : List X) (n : ℕ) (item last : X) (rest : List X) → n + 1 ≡ length xs → reverse xs ≡ last ∷ rest → reverse (set xs n item) ≡ item ∷ rest
+pub reverse-set_last : {X : Type 0} (xs : List X) (n : ℕ) (item last : X) (rest : List X) → n ≡ length xs - 1 → reverse xs ≡ last ∷ rest → reverse (set xs n item) ≡ item ∷ rest
 reverse-set_last xs n item last rest long e =
     let whole : xs ≡ reverse rest ++ last ∷ [] = sym (reverse-reverse xs) ∙ ap reverse e ∙ reverse-append (last ∷ []) rest in
     let size : length xs ≡ length (reverse rest ++ last ∷ []) = ap length whole in

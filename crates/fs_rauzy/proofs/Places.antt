@@ -1,11 +1,11 @@
 -- The places of names in a row, as they are noted, and what std's search in a slice says.
-use Rattle.std.proofs.Common.{◌≡◌, ◌⊎◌, ℕ, ◌+◌, ◌<◌, Bool, Decides, IsPermutation, eqb, Some, List, length, take, get_or, set, refl, sym, ap, ◌∙◌, inl, inr, arith, ◌++◌, [], ◌∷◌, subst}
+use Rattle.std.proofs.Common.{◌≡◌, ◌⊎◌, ℕ, ◌+◌, ◌<◌, Bool, Decides, IsPermutation, eqb, Some, List, length, take, get_or, set, sym, ap, ◌∙◌, inl, inr, arith, [], ◌∷◌, subst}
 use Rattle.std.proofs.lemmas.Bool.{cases_eq}
 use Rattle.std.proofs.lemmas.Bool.Decides.{Decides-eqb}
 use Rattle.std.proofs.lemmas.List.{take_more}
 use Rattle.std.proofs.lemmas.List.Elements.{contains_decides, Decides-contains}
 use Rattle.std.proofs.lemmas.List.Sorted.{IsPermutation-sym}
-use Rattle.std.proofs.lemmas.Option.{same_Some, slice_get-get_or, slice_get_within, get_or_from_slice_get}
+use Rattle.std.proofs.lemmas.Option.{slice_get-get_or, slice_get_within, get_or_from_slice_get}
 use Rattle.std.specs.List.{slice_get, IsAnyAnswer}
 use Rattle.fs_lists.specs.Members.{IsIn, IsDistinct}
 use Rattle.fs_lists.proofs.Items.{slice_get-set_same, slice_get-set_other}

@@ -1,8 +1,8 @@
 -- Equal beginnings of two rows of different names: where all names of the one are among as many places of the other, they are the same.
-use Rattle.std.proofs.Common.{◌≡◌, ◌≢◌, ◌⊎◌, ◌↔◌, ℕ, zero, suc, ◌+◌, ◌<◌, ◌≤◌, max, Option, Some, None, List, [], ◌∷◌, ◌++◌, length, take, get_or, refl, sym, ap, ◌∙◌, subst, inl, inr, arith}
+use Rattle.std.proofs.Common.{◌≡◌, ◌⊎◌, ◌↔◌, ℕ, zero, suc, ◌+◌, ◌<◌, ◌≤◌, max, Option, Some, None, List, [], ◌∷◌, ◌++◌, length, take, get_or, refl, sym, ◌∙◌, subst, inl, inr, arith}
 use Rattle.std.proofs.lemmas.Bool.{cases_eq}
 use Rattle.std.proofs.lemmas.List.{take_more, length-take-le, length-take}
-use Rattle.std.proofs.lemmas.Option.{same_Some, slice_get-get_or}
+use Rattle.std.proofs.lemmas.Option.{same_Some}
 use Rattle.std.specs.List.{slice_get}
 use Rattle.std.specs.Option.{IfSome}
 use Rattle.fs_lists.specs.Members.{IsIn, IsDistinct}
@@ -49,11 +49,11 @@ pub among_back : (xs ys : List ℕ) → IsDistinct xs → length ys ≤ length x
 among_back xs ys p long all y h = elim (in_or_not y xs) [
   | inl k ↦ k
   | inr n ↦ absurd (
-    let more : IsDistinct (y ∷ xs) = ((λ x k e. n (subst (λ z. IsIn z xs) (sym e) k)), p) in
-    let all_more : AreAmong (y ∷ xs) ys = λ x k. elim k [ inl e ↦ subst (λ z. IsIn z ys) (sym e) h | inr m ↦ all x m ] in
-    let short : suc (length xs) ≤ length ys = among_length (y ∷ xs) ys more all_more in
-    omega arith
-  )
+      let more : IsDistinct (y ∷ xs) = ((λ x k e. n (subst (λ z. IsIn z xs) (sym e) k)), p) in
+      let all_more : AreAmong (y ∷ xs) ys = λ x k. elim k [ inl e ↦ subst (λ z. IsIn z ys) (sym e) h | inr m ↦ all x m ] in
+      let short : suc (length xs) ≤ length ys = among_length (y ∷ xs) ys more all_more in
+      omega arith
+      )
 ]
 
 -- ---- beginnings
@@ -83,9 +83,6 @@ number_of_in_take (y ∷ ys) (suc n) (suc j) x p e (inr h) = let l = number_of_i
 abbrev pub EndsAt : List ℕ → List ℕ → ℕ → ℕ → Type 0
 EndsAt top bottom n end = (j : ℕ) → AreAmong (take n bottom) (take j top) ↔ (end ≤ j)
 
-pub ends_none : (top bottom : List ℕ) → EndsAt top bottom 0 0
-ends_none top bottom j = ((λ all. omega arith), (λ l x h. absurd h))
-
 -- one name more
 pub ends_more : (top bottom : List ℕ) (n end place d : ℕ) → IsDistinct top → n < length bottom → slice_get top place ≡ Some (get_or bottom n d)
     → EndsAt top bottom n end → EndsAt top bottom (n + 1) (max end (place + 1))
@@ -103,7 +100,7 @@ ends_more top bottom n end place d p inside at ends j = go (get_or bottom n d) a
       ]),
     )
 
--- such an end is at most the length of the top row, and no less than the number of names
+-- such an end is no less than the number of names
 pub ends_least : (top bottom : List ℕ) (n end : ℕ) → IsDistinct bottom → n ≤ length bottom → EndsAt top bottom n end → n ≤ end
 ends_least top bottom n end p inside ends =
     let short = among_length (take n bottom) (take end top) (take_distinct n bottom p) ((ends end).1 (omega arith)) in
@@ -137,10 +134,7 @@ greatest_same P n (Some k) not_here before =
       (λ j l h. elim (cases_eq j (n + 1)) [ inl e ↦ absurd (not_here (subst P e h)) | inr m ↦ before.2 j (omega arith) h ]),
     )
 
-module _ (top bottom : List ℕ) (apart_top : IsDistinct top) (apart_bottom : IsDistinct bottom) (as_long : length bottom ≡ length top) where
-  pub greatest_none : IsGreatestUpTo (IsProperPrefix top bottom) 0 None
-  greatest_none j l h = let some = h.some in absurd (omega arith)
-
+module _ (top bottom : List ℕ) (apart_bottom : IsDistinct bottom) (as_long : length bottom ≡ length top) where
   -- the first n names are a beginning where they end at n
   pub proper_of_end : (n end : ℕ) → EndsAt top bottom n end → end ≡ n → 0 < n → n < length bottom → IsProperPrefix top bottom n
   proper_of_end n end ends same some others = record {

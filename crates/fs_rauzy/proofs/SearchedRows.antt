@@ -76,9 +76,11 @@ module _ (letters : List Letter) (top bottom : List ℕ) {extents rest : List Ex
     -- what is found where the component can be split
     found_at : (j : ℕ) → HasSplit (component_at letters top bottom e) j → (0 < j) × (j < length row) × HaveSamePrefix row below j
     found_at j h =
-        let rows = rows_of_split here j h in
-        (h.some, subst (λ (names : List ℕ). j < length names) (sym same_row) rows.0,
-        subst (λ names. HaveSamePrefix names below j) (sym same_row) (subst (λ names. HaveSamePrefix (drop e.first top) names j) (sym same_below) rows.1))
+        let rows = rows_of_split here j h in (
+          h.some,
+          subst (λ (names : List ℕ). j < length names) (sym same_row) rows.0,
+          subst (λ names. HaveSamePrefix names below j) (sym same_row) (subst (λ names. HaveSamePrefix (drop e.first top) names j) (sym same_below) rows.1),
+        )
 
     -- and after no more
     pub greatest_found : (found : Option ℕ) → IfSome found (λ k. (j : ℕ) → 0 < j → j < length row → HaveSamePrefix row below j → j ≤ k)
@@ -97,6 +99,7 @@ module _ (letters : List Letter) (top bottom : List ℕ) {extents rest : List Ex
 
     -- the rows begin with the same names exactly where it can be split
     pub split_told : (k : ℕ) (b : Bool) → (b ≡ true) ↔ HaveSamePrefix row below k → 0 < k → k < length row → (b ≡ true) ↔ AtCurrent (λ c. HasSplit c k) components
-    split_told k b told some others =
-        (λ h. split_found (Some k) (some, others, told.0 h),
-        λ h. told.1 (found_at k (subst (λ components. AtCurrent (λ c. HasSplit c k) components) (sym (open_here components is)) h)).2)
+    split_told k b told some others = (
+      λ h. split_found (Some k) (some, others, told.0 h),
+      λ h. told.1 (found_at k (subst (λ components. AtCurrent (λ c. HasSplit c k) components) (sym (open_here components is)) h)).2,
+    )

@@ -1,10 +1,10 @@
 -- The events of the induction, as relations between components. The rule that chooses among them isn't part of them.
-use Rattle.std.specs.Prelude.{◌≡◌, ◌≢◌, ◌↔◌, ℕ, ◌<◌, ◌==◌, ◌&&◌, if◌then◌else◌, Bool, true, false, Option, Some, None, is_some, List, [], ◌∷◌, ◌++◌, length, map, take, drop}
+use Rattle.std.specs.Prelude.{◌≡◌, ◌≢◌, ◌↔◌, ℕ, ◌<◌, ◌==◌, ◌&&◌, if◌then◌else◌, true, false, Option, Some, None, is_some, List, [], ◌∷◌, ◌++◌, length, map, take, drop}
 use Rattle.std.specs.List.{slice_get}
 use Rattle.fs_lists.specs.Members.{IsIn}
 use Rattle.fs_quadratic.specs.Ring as ring
 use Rattle.fs_quadratic.specs.Ring.{Quadratic, IsLess, add, sub, total}
-use Rattle.fs_plane.specs.Vector.{PlaneVector, vector_add}
+use Rattle.fs_plane.specs.Vector.{vector_add}
 use Rattle.fs_gluing.specs.Exchanges.{Letter, Component, names_of}
 use Rattle.fs_rauzy.specs.declared.events.Event.{Event}
 use Rattle.fs_rauzy.specs.declared.events.Event.TheVariants.{Won, Merged, Split, Closed}

@@ -190,11 +190,7 @@ impl State {
             return None;
         }
         let first = self.extents.last().first;
-        let greatest = find_greatest(
-            &self.top[first..],
-            &self.bottom[first..],
-            &mut self.places,
-        );
+        let greatest = find_greatest(&self.top[first..], &self.bottom[first..], &mut self.places);
         self.searched = greatest.is_none();
         greatest
     }

@@ -1,6 +1,6 @@
 -- The search for a name, from the end.
-use Rattle.std.proofs.Common.{◌+◌, ◌-◌, ◌<◌, ◌≡◌, arith}
-use Rattle.fs_rauzy.proofs.RowMoves.{search_starts, search_goes_on, search_more, search_ends}
+use Rattle.std.proofs.Common.{◌+◌, ◌-◌, ◌≡◌, arith}
+use Rattle.fs_rauzy.proofs.RowMoves.{search_goes_on, search_more}
 use Rattle.fs_rauzy.proofs.rows.find_name.Goals as goal
 
 pub loop-place-preserved : goal.loop-place-preserved

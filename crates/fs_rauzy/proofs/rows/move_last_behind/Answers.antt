@@ -1,5 +1,5 @@
 -- The part right of the winner is turned round.
-use Rattle.std.proofs.Common.{◌+◌, ◌-◌, ◌≤◌, length, arith}
+use Rattle.std.proofs.Common.{◌+◌, ◌-◌, length, arith}
 use Rattle.fs_rauzy.proofs.RowMoves.{moved_behind}
 use Rattle.fs_rauzy.proofs.rows.move_last_behind.Goals as goal
 

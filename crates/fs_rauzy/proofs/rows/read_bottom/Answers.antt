@@ -1,5 +1,5 @@
 -- One name more; the bottom row is as long as the top row.
-use Rattle.std.proofs.Common.{◌≤◌, ◌∷◌, [], ◌++◌, length, sym, ap, ◌∙◌, arith}
+use Rattle.std.proofs.Common.{◌∷◌, [], ◌++◌, sym, ap, ◌∙◌, arith}
 use Rattle.std.proofs.lemmas.List.{take_all, length-map}
 use Rattle.std.proofs.lemmas.List.Sorted.{length_permutation}
 use Rattle.fs_gluing.specs.Exchanges.{names_of, Letter}

@@ -1,5 +1,5 @@
 -- The names of the bottom row, one after another: where they end in the top row.
-use Rattle.std.proofs.Common.{◌≡◌, ◌+◌, ◌<◌, ◌≤◌, max, length, refl, sym, ap, ◌∙◌, subst, arith}
+use Rattle.std.proofs.Common.{◌≡◌, ◌+◌, max, sym, ap, ◌∙◌, subst, arith}
 use Rattle.std.proofs.lemmas.List.Sorted.{length_permutation}
 use Rattle.fs_iet.proofs.Rearrangements.{distinct_permutation}
 use Rattle.fs_rauzy.proofs.Places.{name_noted}
@@ -44,17 +44,17 @@ loop-n-preserved c =
           elim c.if-end-next.branch [
             | then-end-next+then-n-bottom w ↦
                 subst (IsGreatestUpTo (IsProperPrefix top bottom) (n + 1)) (sym w.greatest-is)
-                (greatest_next (IsProperPrefix top bottom) n (proper_of_end top bottom c.requires.apart apart_bottom as_long (n + 1) c.max-end.result ends w.if-end-next.true (omega arith) w.if-n-bottom.true))
+                (greatest_next (IsProperPrefix top bottom) n (proper_of_end top bottom apart_bottom as_long (n + 1) c.max-end.result ends w.if-end-next.true (omega arith) w.if-n-bottom.true))
             | else-end-next w ↦
                 subst (IsGreatestUpTo (IsProperPrefix top bottom) (n + 1)) (sym w.greatest-is)
                 (greatest_same (IsProperPrefix top bottom) n c.loop-n.greatest
                 (λ proper.
-                    let both = end_of_proper top bottom c.requires.apart apart_bottom as_long (n + 1) c.max-end.result ends proper in
-                    let there = both.1 in
-                    elim w.else-end-next.branch [
-                      | else-end-next-via-then-end-next+else-n-bottom v ↦ let past = v.if-n-bottom.false in absurd (omega arith)
-                      | else-end-next-via-else-end-next v ↦ v.if-end-next.false both.0
-                    ])
+                let both = end_of_proper top bottom apart_bottom as_long (n + 1) c.max-end.result ends proper in
+                let there = both.1 in
+                elim w.else-end-next.branch [
+                  | else-end-next-via-then-end-next+else-n-bottom v ↦ let past = v.if-n-bottom.false in absurd (omega arith)
+                  | else-end-next-via-else-end-next v ↦ v.if-end-next.false both.0
+                ])
                 c.loop-n.invariant.greatest)
           ];
     }

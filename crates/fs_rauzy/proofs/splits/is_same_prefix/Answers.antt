@@ -1,9 +1,8 @@
 -- The first k names of the bottom row are looked for among those of the top row.
-use Rattle.std.proofs.Common.{◌≡◌, ◌≤◌, take, length, get_or, refl, subst, arith}
+use Rattle.std.proofs.Common.{◌≡◌, take, get_or, refl, subst, arith}
 use Rattle.std.proofs.lemmas.Bool.{false≢true, both_ways}
-use Rattle.std.proofs.lemmas.List.{take_all, length-take-le}
+use Rattle.std.proofs.lemmas.List.{take_all}
 use Rattle.fs_lists.specs.Members.{IsIn}
-use Rattle.fs_lists.proofs.Items.{item_of}
 use Rattle.fs_iet.proofs.ListsInTurn.{in_by_number}
 use Rattle.std.proofs.lemmas.Option.{slice_get-get_or}
 use Rattle.fs_rauzy.proofs.Places.{among_more, contains_tells}

@@ -11,8 +11,7 @@ invariant_of-self c =
     let bottom = c.self.inside.bottom.items in
     let now = c.last-first.ensures in
     let rest = c.drop_last.ensures.items c.last-first.result now.0 now.1 in
-    let kept = c.self.invariant in
-    (
+    let kept = c.self.invariant in (
       closed_state letters top bottom now.1 c.truncate.ensures.items c.truncate-2.ensures.items rest kept.0,
       closed_place letters top bottom now.1 c.truncate.ensures.items c.truncate-2.ensures.items rest kept.1,
       subst (λ room. length letters ≤ room) (sym c.drop_last.ensures.room) kept.2,

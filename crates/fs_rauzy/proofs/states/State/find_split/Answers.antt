@@ -23,15 +23,14 @@ pub invariant_of-self : goal.invariant_of-self
 invariant_of-self c =
     let x = c.self.inside in
     let row = row_slice c.deref.result.now x.top.items c.last-first.result.first c.deref.ensures.value in
-    let below = row_slice c.deref-2.result.now x.bottom.items c.last-first.result.first c.deref-2.ensures.value in
-    (
+    let below = row_slice c.deref-2.result.now x.bottom.items c.last-first.result.first c.deref-2.ensures.value in (
       c.self.invariant.0,
       c.self.invariant.1,
       c.self.invariant.2,
       length-written _ _ c.find_greatest-greatest.new.places x.places.items (c.find_greatest-greatest.ensures.long ∙ c.deref_mut.ensures.len)
           (sym c.deref_mut.ensures.len ∙ ap length c.deref_mut.ensures.value ∙ c.self.invariant.3),
       searched_now c.find_greatest-greatest.result c.is_none-self-inside.result _ c.is_none-self-inside.ensures
-      (none_found x.letters.items x.top.items x.bottom.items c.last-first.ensures.1 c.self.invariant.1 _ _ row below _ refl c.find_greatest-greatest.result c.find_greatest-greatest.ensures.none),
+          (none_found x.letters.items x.top.items x.bottom.items c.last-first.ensures.1 c.self.invariant.1 _ _ row below _ refl c.find_greatest-greatest.result c.find_greatest-greatest.ensures.none),
     )
 
 pub returns-clause-some : goal.returns-clause-some

@@ -6,7 +6,7 @@ use Rattle.fs_rauzy.specs.States.{IsState}
 use Rattle.fs_rauzy.specs.StatesInPlace.{opened}
 use Rattle.fs_rauzy.specs.FirstReturns.{AllGiveReturns}
 use Rattle.fs_rauzy.proofs.ExchangeInPlace.{begun_open, begun_in_place, begun_state}
-use Rattle.fs_rauzy.proofs.Pending.{exchange_returns}
+use Rattle.fs_rauzy.proofs.EventReturns.{exchange_gives_returns}
 use Rattle.fs_rauzy.proofs.states.State.new.Goals as goal
 
 pub invariant_of-result : goal.invariant_of-result
@@ -21,10 +21,9 @@ invariant_of-result c =
     let extents = c.push.ensures.items ∙ (λ i. record { first = 0; base = ring.zero; total = total i } ∷ none i) in
     let long = ap length letters in
     let count = c.letters-count.ensures.letters in
-    let room = c.push.ensures.room ∙ c.in_ok-extents.ensures.room in
-    (
+    let room = c.push.ensures.room ∙ c.in_ok-extents.ensures.room in (
       subst (λ d. IsState (record { d = d; components = opened c.in_ok-letters.letters.items c.in_ok-top.top.items c.in_ok-bottom.bottom.items c.push.new.self.items })) (sym c.field.ensures)
-      (begun_state x kept letters top bottom extents),
+          (begun_state x kept letters top bottom extents),
       begun_in_place x kept letters top bottom extents,
       omega arith,
       c.in_ok-places.ensures ∙ count ∙ sym long,
@@ -46,4 +45,4 @@ returns-clause-returns c = λ s v surface some same exchange.
     subst (λ (components : List Component). AllGiveReturns s v components)
     (sym (begun_open c.args.exchange kept c.in_ok-letters.ensures c.in_ok-top.ensures c.in_ok-bottom.ensures
     (c.push.ensures.items ∙ (λ i. record { first = 0; base = ring.zero; total = total i } ∷ none i))))
-    (exchange_returns s v surface some same exchange kept.lawful, tt)
+    (exchange_gives_returns s v surface some same exchange kept.lawful, tt)
