@@ -6,6 +6,7 @@ mod ChosenEvents
 mod ClearedEnds
 pub mod ClosedComponents
 mod ClosedInPlace
+mod ComparedRows
 pub mod CornerSides
 pub mod CylinderDirections
 pub mod CylinderFloors
