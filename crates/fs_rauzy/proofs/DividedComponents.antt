@@ -13,7 +13,7 @@ use Rattle.fs_iet.proofs.LetterRows.{length_of_letter, name_long, name_in_top, n
 use Rattle.fs_iet.proofs.TakenPositions.{takes_within}
 use Rattle.fs_rauzy.specs.declared.events.Found.{Found}
 use Rattle.fs_rauzy.specs.Events.{without_start, without_end, prefix_sum, IsSplit}
-use Rattle.fs_rauzy.proofs.LeftEnds.{left_in, top_names_tiles}
+use Rattle.fs_rauzy.proofs.LeftEnds.{Stays, left_in, top_names_tiles}
 use Rattle.fs_rauzy.proofs.RowIntervals.{BeginAlike, begin_alike}
 use Rattle.fs_rauzy.proofs.TakenAfter.{TakenAs, IsTakenFrom, once, taken_by_old}
 
@@ -103,22 +103,38 @@ module _ {d : ℕ} (L : IsOrderedRing (quadratic d) (IsPositive d)) where
 
       -- ---- what the parts take
 
-      taken_by_part : {part : Component} → IsLawful d part → HaveOlds c part
+      stays_in_part : {part : Component} → IsLawful d part → HaveOlds c part
           → ((name : ℕ) → IsIn name (names_of part.top) → top_left part name ≡ top_left c name) → ((name : ℕ) → IsIn name part.bottom → bottom_left part name ≡ bottom_left c name)
-          → (letter : Letter) (y z : Quadratic) → Takes d part letter y z → TakenAs d c part letter y z
-      taken_by_part {part} lawful_part olds top bottom letter y z t =
-          let old = olds letter t.there in
-          let there = in_map (λ (l : Letter). l.name) letter part.top t.there in
-          once old.0
-          (taken_by_old L old.0 old.1.there (top letter.name there ∙ ap (top_left c) old.1.named)
-          (bottom letter.name (name_in_bottom L lawful_part letter.name there) ∙ ap (bottom_left c) old.1.named)
-          (order.at_most_of_eq L letter.length old.0.length old.1.length) t)
-          old.1.back
+          → (letter : Letter) → IsIn letter part.top → (old : Letter) × Stays d c part letter old
+      stays_in_part {part} lawful_part olds top bottom letter h =
+          let old = olds letter h in
+          let there = in_map (λ (l : Letter). l.name) letter part.top h in (
+            old.0,
+            record {
+              there = old.1.there;
+              back = old.1.back;
+              top = top letter.name there ∙ ap (top_left c) old.1.named;
+              bottom = bottom letter.name (name_in_bottom L lawful_part letter.name there) ∙ ap (bottom_left c) old.1.named;
+              shorter = order.at_most_of_eq L letter.length old.0.length old.1.length;
+            },
+          )
 
-      meet : add left.base left.total ≡ right.base
+      -- each letter of a part has both left ends and the return vector of one before
+      pub left_stays : (letter : Letter) → IsIn letter left.top → (old : Letter) × Stays d c left letter old
+      left_stays = stays_in_part lawful_left e.lefts top_alike.0 bottom_alike.0
+
+      pub right_stays : (letter : Letter) → IsIn letter right.top → (old : Letter) × Stays d c right letter old
+      right_stays = stays_in_part lawful_right e.rights top_alike.1 bottom_alike.1
+
+      taken_once : {part : Component} → ((letter : Letter) → IsIn letter part.top → (old : Letter) × Stays d c part letter old) → (letter : Letter) (y z : Quadratic) → Takes d part letter y z → TakenAs d c part letter y z
+      taken_once stays letter y z t = let k = stays letter t.there in once k.0 (taken_by_old L k.0 k.1.there k.1.top k.1.bottom k.1.shorter t) k.1.back
+
+      -- the right part begins where the left one ends
+      pub meet : add left.base left.total ≡ right.base
       meet = ap (λ b. add b left.total) e.base ∙ sym e.next
 
-      end_together : add right.base right.total ≡ add c.base c.total
+      -- and ends where the whole ends
+      pub end_together : add right.base right.total ≡ add c.base c.total
       end_together =
           derived L.ring (right.base ∷ right.total ∷ c.base ∷ c.total ∷ left.total ∷ []) (λ b r c t l. b ⊕ r ≐ c ⊕ t from (numeral 1, b ≐ c ⊕ l) ∷ (numeral 1, l ⊕ r ≐ t) ∷ []) refl (e.next, (e.sum, tt))
 
@@ -129,7 +145,7 @@ module _ {d : ℕ} (L : IsOrderedRing (quadratic d) (IsPositive d)) where
             subst (λ y. IsAtMost (quadratic d) (IsPositive d) y (add c.base c.total)) (sym meet)
             (subst (IsAtMost (quadratic d) (IsPositive d) right.base) end_together (begins_before_end lawful_right));
         within = λ letter y z t. (takes_within L lawful_left t).1;
-        taken = taken_by_part lawful_left e.lefts top_alike.0 bottom_alike.0;
+        taken = taken_once left_stays;
       }
 
       pub taken_by_right : IsTakenFrom d c right
@@ -139,7 +155,7 @@ module _ {d : ℕ} (L : IsOrderedRing (quadratic d) (IsPositive d)) where
             (subst (IsAtMost (quadratic d) (IsPositive d) left.base) meet (begins_before_end lawful_left));
         to_right = order.at_most_of_eq L (add right.base right.total) (add c.base c.total) end_together;
         within = λ letter y z t. (takes_within L lawful_right t).1;
-        taken = taken_by_part lawful_right e.rights top_alike.1 bottom_alike.1;
+        taken = taken_once right_stays;
       }
 
 -- ---- a split

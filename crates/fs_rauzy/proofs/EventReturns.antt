@@ -72,6 +72,16 @@ module _ (s : GluedPolygons) (v : PlaneVector) (surface : IsTranslationSurface s
       let lawful_after = merged_lawful L lawful.0 merged in
       (returns_of_taken g.0 (taken_of_shortened L lawful.0 (shortened_by_merge L lawful.0 lawful_after merged) lawful_after), g.1)
 
+  -- what the exchange of a surface and a direction takes, the flow takes by one crossing, and is back on the base
+  pub exchange_returns : {c : Component} {letter : Letter} {y z : Quadratic} → IsExchange s v c → IsLawful s.d c → Takes s.d c letter y z
+      → IsFirstReturn s v c.base (add c.base c.total) 1 y z letter.back
+  exchange_returns exchange lawful t = record {
+    some = omega arith;
+    orbit = orbit_of_crossing s v (crosses_of_takes s surface v some exchange t).1;
+    returned = (takes_within (surface_order s surface) lawful t).1;
+    not_before = λ i u g p q o inside. absurd (omega arith);
+  }
+
   -- the exchange of a surface and a direction gives first returns: each is one crossing
   pub exchange_gives_returns : {d : ℕ} {c : Component} → s.d ≡ d → IsExchange s v c → IsLawful d c → GivesReturns s v c
   exchange_gives_returns {d} {c} same exchange lawful = record {
@@ -79,15 +89,7 @@ module _ (s : GluedPolygons) (v : PlaneVector) (surface : IsTranslationSurface s
     to_total =
         order.at_most_of_eq (surface_order s surface) (add c.base c.total) (block_start s v (length s.polygons))
         ((λ i. add (exchange.base i) (exchange.total i)) ∙ ring_laws.zero_add (surface_order s surface).ring (block_start s v (length s.polygons)));
-    returns = λ letter y z t. (
-      1,
-      record {
-        some = omega arith;
-        orbit = orbit_of_crossing s v (crosses_of_takes s surface v some exchange t).1;
-        returned = (takes_within (surface_order s surface) (subst (λ (e : ℕ). IsLawful e c) (sym same) lawful) t).1;
-        not_before = λ i u g p q o inside. absurd (omega arith);
-      },
-    );
+    returns = λ letter y z t. (1, exchange_returns exchange (subst (λ (e : ℕ). IsLawful e c) (sym same) lawful) t);
   }
 
 -- each event keeps first returns, of every surface and direction

@@ -34,7 +34,7 @@ module _ (d : ℕ) (c after : Component) where
     pub top : top_left after letter.name ≡ add (top_left c y.name) (sub y.length cut)
     pub bottom : bottom_left after letter.name ≡ add (bottom_left c x.name) (sub x.length cut)
 
-  -- the component is shorter by a length that both last letters have at their ends, and each letter stays or joins these ends
+  -- the component is shorter by a length that both last letters have at their ends, and that one of them has, and each letter stays or joins these ends
   pub record IsShortened : Type 0 where
     pub x : Letter
     pub y : Letter
@@ -43,6 +43,7 @@ module _ (d : ℕ) (c after : Component) where
     pub long : IsPositive d cut
     pub above : IsAtMost (quadratic d) (IsPositive d) cut x.length
     pub below : IsAtMost (quadratic d) (IsPositive d) cut y.length
+    pub exact : (cut ≡ x.length) ⊎ (cut ≡ y.length)
     pub base : after.base ≡ c.base
     pub sum : after.total ≡ sub c.total cut
     pub letters : (letter : Letter) → IsIn letter after.top → ((old : Letter) × Stays letter old) ⊎ Joins x y letter cut

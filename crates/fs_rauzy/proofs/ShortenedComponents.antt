@@ -76,6 +76,7 @@ module _ {d : ℕ} (L : IsOrderedRing (quadratic d) (IsPositive d)) {c after : C
       long = letter_long L lawful w.y w.last.there;
       above = order.at_most_of_less L w.y.length w.x.length w.longer;
       below = order.at_most_refl L w.y.length;
+      exact = inr refl;
       base = w.base;
       sum = w.sum;
       letters = λ letter h.
@@ -178,6 +179,7 @@ module _ {d : ℕ} (L : IsOrderedRing (quadratic d) (IsPositive d)) {c after : C
       long = letter_long L lawful w.x (last_in w.last);
       above = order.at_most_refl L w.x.length;
       below = order.at_most_of_less L w.x.length w.y.length w.longer;
+      exact = inl refl;
       base = w.base;
       sum = w.sum;
       letters = λ letter h.
@@ -283,6 +285,7 @@ module _ {d : ℕ} (L : IsOrderedRing (quadratic d) (IsPositive d)) {c after : C
       long = letter_long L lawful w.x (last_in w.last);
       above = order.at_most_refl L w.x.length;
       below = order.at_most_of_eq L w.x.length w.y.length w.equal;
+      exact = inl refl;
       base = w.base;
       sum = w.sum;
       letters = λ letter h. elim (in_with_cases (merged_of w.x w.y) w.last.before_top letter (subst (IsIn letter) w.top h)) [

@@ -35,8 +35,8 @@ module _ {A : Type 0} {R : Operations A} {P : A → Type 0} (L : IsOrderedRing R
     first_before = signs.positive_by L (t ∷ l ∷ cut ∷ y ∷ []) (λ t l c y. (t ⊕ l) ⊖ y ≐ ((t ⊕ (l ⊖ c)) ⊕ c) ⊖ y) refl ends
 
     -- it is outside of what is left
-    outside : minus R r cut ≤ moved R t b y
-    outside k =
+    beyond_rest : minus R r cut ≤ moved R t b y
+    beyond_rest k =
         begins (signs.positive_of_eq L
         (derived L.ring (t ∷ b ∷ l ∷ r ∷ cut ∷ y ∷ []) (λ t b l r c y. (t ⊕ (l ⊖ c)) ⊖ y ≐ (r ⊖ c) ⊖ ((y ⊖ t) ⊕ b) from (numeral 1, b ⊕ l ≐ r) ∷ []) refl (bottom, tt)) k)
 
@@ -44,7 +44,7 @@ module _ {A : Type 0} {R : Operations A} {P : A → Type 0} (L : IsOrderedRing R
     second_from =
         order.at_most_trans L s (minus R r cut) (moved R t b y)
         (λ k. above (signs.positive_of_eq L (derived L.ring (s ∷ m ∷ r ∷ cut ∷ []) (λ s m r c. c ⊖ m ≐ s ⊖ (r ⊖ c) from (E.neg (numeral 1), s ⊕ m ≐ r) ∷ []) refl (top, tt)) k))
-        outside
+        beyond_rest
 
     second_before : moved R t b y < R.add s m
     second_before =
@@ -63,6 +63,13 @@ module _ (d : ℕ) (c after : Component) where
     once : (old : Letter) → Takes d c old y z → letter.back ≡ old.back → TakenAs letter y z
     twice : (first second : Letter) (u : Quadratic) → Takes d c first y u → ¬ IsBetween d after.base (add after.base after.total) u → Takes d c second u z
         → letter.back ≡ vector_add first.back second.back → TakenAs letter y z
+
+  -- the first letter takes y out of what is left, and the second one takes it on from there to z
+  pub record IsTakenOn (first second : Letter) (y z : Quadratic) : Type 0 where
+    pub between : Quadratic
+    pub out : Takes d c first y between
+    pub outside : ¬ IsBetween d after.base (add after.base after.total) between
+    pub on : Takes d c second between z
 
   -- the component after the event is within that before, and takes what that takes once or twice
   pub record IsTakenFrom : Type 0 where
@@ -89,13 +96,14 @@ module _ {d : ℕ} (L : IsOrderedRing (quadratic d) (IsPositive d)) {c after : C
 
 module _ {d : ℕ} (L : IsOrderedRing (quadratic d) (IsPositive d)) {c after : Component} (lawful : IsLawful d c) (e : IsShortened d c after) where
   -- the end of what is left
-  row_end : add after.base after.total ≡ sub (add c.base c.total) e.cut
+  pub row_end : add after.base after.total ≡ sub (add c.base c.total) e.cut
   row_end =
       (λ i. add (e.base i) (e.sum i))
       ∙ identity L.ring (c.base ∷ c.total ∷ e.cut ∷ []) (λ b t k. b ⊕ (t ⊖ k) ≐ (b ⊕ t) ⊖ k) refl
 
-  taken_twice : {letter : Letter} {p z : Quadratic} → Joins d c after e.x e.y letter e.cut → Takes d after letter p z → TakenAs d c after letter p z
-  taken_twice {letter} {p} {z} k t =
+  -- what a letter that joins two ends takes, the one letter takes out of what is left, and the other takes on
+  pub taken_on : {letter : Letter} {p z : Quadratic} → Joins d c after e.x e.y letter e.cut → Takes d after letter p z → IsTakenOn d c after e.y e.x p z
+  taken_on {letter} {p} {z} k t =
       let ty = top_left c e.y.name in
       let by = bottom_left c e.y.name in
       let tx = top_left c e.x.name in
@@ -108,24 +116,27 @@ module _ {d : ℕ} (L : IsOrderedRing (quadratic d) (IsPositive d)) {c after : C
       let ends : IsLess (quadratic d) (IsPositive d) p (add (add ty (sub e.y.length e.cut)) e.cut) =
       subst (λ l. IsLess (quadratic d) (IsPositive d) p (add (add ty (sub e.y.length e.cut)) l)) k.length
       (subst (λ a. IsLess (quadratic d) (IsPositive d) p (add a letter.length)) k.top t.before_right) in
-      twice e.y e.x u
-      (record {
-        there = e.last.there;
-        from_left = first_from L ty by e.y.length tx bx e.x.length r e.cut p top bottom e.below e.above begins ends;
-        before_right = first_before L ty by e.y.length tx bx e.x.length r e.cut p top bottom e.below e.above begins ends;
-        beyond = refl;
-      })
-      (λ in_rest. outside L ty by e.y.length tx bx e.x.length r e.cut p top bottom e.below e.above begins ends
-      (subst (IsLess (quadratic d) (IsPositive d) u) row_end in_rest.before_right))
-      (record {
-        there = last_in e.last;
-        from_left = second_from L ty by e.y.length tx bx e.x.length r e.cut p top bottom e.below e.above begins ends;
-        before_right = second_before L ty by e.y.length tx bx e.x.length r e.cut p top bottom e.below e.above begins ends;
-        beyond =
-            t.beyond ∙ (λ i. moved (quadratic d) (k.top i) (k.bottom i) p)
-            ∙ sym (both_moved L ty by e.y.length tx bx e.x.length r e.cut p top bottom e.below e.above begins ends);
-      })
-      k.back
+      record {
+        between = u;
+        out = record {
+          there = e.last.there;
+          from_left = first_from L ty by e.y.length tx bx e.x.length r e.cut p top bottom e.below e.above begins ends;
+          before_right = first_before L ty by e.y.length tx bx e.x.length r e.cut p top bottom e.below e.above begins ends;
+          beyond = refl;
+        };
+        outside = λ in_rest. beyond_rest L ty by e.y.length tx bx e.x.length r e.cut p top bottom e.below e.above begins ends (subst (IsLess (quadratic d) (IsPositive d) u) row_end in_rest.before_right);
+        on = record {
+          there = last_in e.last;
+          from_left = second_from L ty by e.y.length tx bx e.x.length r e.cut p top bottom e.below e.above begins ends;
+          before_right = second_before L ty by e.y.length tx bx e.x.length r e.cut p top bottom e.below e.above begins ends;
+          beyond =
+              t.beyond ∙ (λ i. moved (quadratic d) (k.top i) (k.bottom i) p)
+              ∙ sym (both_moved L ty by e.y.length tx bx e.x.length r e.cut p top bottom e.below e.above begins ends);
+        };
+      }
+
+  taken_twice : {letter : Letter} {p z : Quadratic} → Joins d c after e.x e.y letter e.cut → Takes d after letter p z → TakenAs d c after letter p z
+  taken_twice k t = let w = taken_on k t in twice e.y e.x w.between w.out w.outside w.on k.back
 
   -- a lawful component that is shortened takes what it took before, once or twice
   pub taken_of_shortened : IsLawful d after → IsTakenFrom d c after

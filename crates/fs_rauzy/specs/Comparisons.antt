@@ -15,7 +15,7 @@ pub record HaveEqualRows (before after : Component) : Type 0 where
 abbrev pub checked_proportion : ℕ → Quadratic → Quadratic → ℕ → List Letter → List Letter → Result Bool Place
 checked_proportion d earlier now n (before ∷ befores) (after ∷ afters) =
     (checked_product d (7 + 2 * n) after.length earlier >>= (λ p. checked_product d (8 + 2 * n) before.length now >>= (λ q.
-        if is_same_number p q then checked_proportion d earlier now (n + 1) befores afters else Ok false)))
+    if is_same_number p q then checked_proportion d earlier now (n + 1) befores afters else Ok false)))
 checked_proportion d earlier now n befores afters = Ok true
 
 -- what the comparison gives: whether the components are alike, or the first place; places are tried only where the rows are equal

@@ -4,9 +4,11 @@ pub mod Events
 pub mod FirstReturns
 pub mod Loops
 pub mod Measures
+pub mod Pairings
 pub mod Rooms
 pub mod Rule
 pub mod Runs
+pub mod RunsInPlace
 pub mod SplitsInPlace
 pub mod States
 pub mod StatesInPlace

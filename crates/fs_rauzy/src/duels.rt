@@ -130,7 +130,7 @@ fn write_won_above(letters: &mut [Interval], winner: usize, loser: usize, number
     requires differ { winner ≢ loser }
     ensures { let a = slice_index_or letters.old winner no_letter in let b = slice_index_or letters.old loser no_letter in
         letters.new ≡ slice_set (slice_set letters.old winner (record a { length = numbers.now.length })) loser
-            (record b { back = numbers.now.back; start = record b.start { vector = numbers.now.vector } }) }
+        (record b { back = numbers.now.back; start = record b.start { vector = numbers.now.vector } }) }
 {
     let letter = &mut letters[winner];
     letter.length = numbers.length;
@@ -146,7 +146,7 @@ fn write_won_below(letters: &mut [Interval], winner: usize, loser: usize, number
     requires differ { winner ≢ loser }
     ensures { let a = slice_index_or letters.old winner no_letter in let b = slice_index_or letters.old loser no_letter in
         letters.new ≡ slice_set (slice_set letters.old winner (record a { length = numbers.now.length })) loser
-            (record b { back = numbers.now.back; end = record b.end { vector = numbers.now.vector } }) }
+        (record b { back = numbers.now.back; end = record b.end { vector = numbers.now.vector } }) }
 {
     let letter = &mut letters[winner];
     letter.length = numbers.length;

@@ -1,9 +1,15 @@
 // The run of the induction within a budget of steps.
 
-ghost use Rattle.std.specs.Prelude.{◌≡◌, ◌≤◌, Result, IfOk};
+ghost use Rattle.std.specs.Prelude.{◌≡◌, ◌+◌, ◌<◌, ◌≤◌, ◌^◌, ℕ, Result, IfOk, IfErr, OnOk, IsSome, true, false};
+ghost use Rattle.fs_quadratic.specs.Radicand.{IsRadicand};
+ghost use Rattle.fs_plane.specs.declared.sites.Site.TheVariants as sites;
 ghost use Rattle.fs_plane.specs.declared.sites.Stop.{Stop};
 ghost use Rattle.fs_rauzy.specs.declared.parts.Run.{Run};
-ghost use Rattle.fs_rauzy.specs.Runs.{EndsRun, ReturnsRun, ArePartsAscending};
+ghost use Rattle.fs_rauzy.specs.Runs.{EndsRun, ReturnsRun, ArePartsAscending, Goes, start_of, event_number};
+ghost use Rattle.fs_rauzy.specs.RunsInPlace.{ClosesTo, LooksBack, IsCompared, OverflowsWhere, StopsRun, CanGo, noted, renumbered, saved_now};
+ghost use Rattle.fs_rauzy.specs.States.{IsState};
+ghost use Rattle.fs_rauzy.specs.StatesInPlace.{IsChoice};
+ghost use Rattle.fs_rauzy.specs.Steps.{IsOpen};
 
 use crate::checkpoints::{Checkpoint, is_saved};
 use crate::events::{Event, Found};
@@ -12,6 +18,7 @@ use crate::states::{Choice, State};
 use fs_gluing::Sequence;
 use fs_plane::{Place, Site, Stop};
 use std::alloc::{AllocError, Global};
+use std::marker::Model;
 
 /// The run of the induction from a state until no component is open, with at most `budget` steps, which are won comparisons
 /// and merges.
@@ -57,9 +64,38 @@ pub struct Progress {
     found: Vec<Found>,
 }
 
+impl Model for Progress {
+    ghost use Rattle.std.specs.Prelude.{◌≡◌, reverse};
+    ghost use Rattle.fs_rauzy.specs.Runs.{event_number};
+    ghost use Rattle.fs_rauzy.specs.RunsInPlace.{ProgressValue, checkpoint_in};
+
+    ghost Value = { ProgressValue };
+
+    ghost view = { λ x. record {
+      d = x.state.d;
+      point = record {
+        components = x.state.components;
+        number = x.number;
+        saved = checkpoint_in x.saved;
+        looped = x.looped;
+        steps = x.steps;
+        events = x.events.items;
+        parts = reverse x.parts.items;
+        found = x.found.items;
+      };
+    } };
+
+    ghost invariant = { λ x. x.numbered ≡ event_number x.events.items };
+}
+
 impl Progress {
     // The beginning of a run.
-    fn start(alloc: Global, state: State) -> Result<Progress, AllocError> {
+    fn start(alloc: Global, state: State) -> Result<Progress, AllocError>
+        ensures start { IfOk result (λ progress. progress ≡ record { d = state.d; point = start_of state.components }) }
+        ensures state { IsState state }
+        ensures radicand { IsRadicand state.d }
+    {
+        let _ = &state.field;
         let mut progress = Progress {
             state,
             number: 0,
@@ -76,7 +112,14 @@ impl Progress {
     }
 
     // Makes the next event.
-    fn go(&mut self, alloc: Global, budget: u32) -> Result<(), Stop> {
+    fn go(&mut self, alloc: Global, budget: u32) -> Result<(), Stop>
+        requires budget { budget ≤ 1000000 }
+        requires ready { CanGo self.old.d budget self.old.point }
+        ensures goes { OnOk result (Goes self.old.d self.old.point self.new.point) }
+        ensures within { OnOk result (self.new.point.steps ≤ budget) }
+        ensures field { OnOk result (self.new.d ≡ self.old.d) }
+        ensures stops { IfErr result (StopsRun self.old.d budget self.old.point) }
+    {
         if self.looped {
             return Ok(self.close_loop(alloc)?);
         }
@@ -89,7 +132,15 @@ impl Progress {
     }
 
     // Closes a component that is alike to its checkpoint.
-    fn close_loop(&mut self, alloc: Global) -> Result<(), AllocError> {
+    fn close_loop(&mut self, alloc: Global) -> Result<(), AllocError>
+        requires looped { self.old.point.looped ≡ true }
+        requires open { IsOpen self.old.point.components }
+        requires saved { IsSome self.old.point.saved }
+        requires few { event_number self.old.point.events + 1 < 2 ^ 32 }
+        ensures goes { OnOk result (Goes self.old.d self.old.point self.new.point) }
+        ensures steps { OnOk result (self.new.point.steps ≡ self.old.point.steps) }
+        ensures field { OnOk result (self.new.d ≡ self.old.d) }
+    {
         let to = self.number;
         match &self.saved {
             Some(saved) => {
@@ -101,16 +152,29 @@ impl Progress {
     }
 
     // Closes the current component.
-    fn close(&mut self, alloc: Global, kind: Kind) -> Result<(), AllocError> {
+    fn close(&mut self, alloc: Global, kind: Kind) -> Result<(), AllocError>
+        requires open { IsOpen self.old.point.components }
+        requires few { event_number self.old.point.events + 1 < 2 ^ 32 }
+        ensures closes { OnOk result (ClosesTo kind self.old.point self.new.point) }
+        ensures field { OnOk result (self.new.d ≡ self.old.d) }
+    {
         let part = self.state.part(alloc, kind)?;
         self.parts.push(part)?;
         let logged = self.state.close();
-        self.events.push(logged)?;
+        self.note(logged)?;
         self.begin(alloc)
     }
 
     // Splits it after k letters.
-    fn split(&mut self, alloc: Global, k: u32) -> Result<(), Stop> {
+    fn split(&mut self, alloc: Global, k: u32) -> Result<(), Stop>
+        requires going { self.old.point.looped ≡ false }
+        requires choice { IsChoice self.old.point.components (Choice.Split k) }
+        requires few { event_number self.old.point.events + 1 < 2 ^ 32 }
+        ensures goes { OnOk result (Goes self.old.d self.old.point self.new.point) }
+        ensures steps { OnOk result (self.new.point.steps ≡ self.old.point.steps) }
+        ensures field { OnOk result (self.new.d ≡ self.old.d) }
+        ensures stops { IfErr result (λ stop. (n : ℕ) → self.old.point.steps ≤ n → StopsRun self.old.d n self.old.point stop) }
+    {
         match self.state.split_at(k) {
             Ok(logged) => {
                 self.note(logged)?;
@@ -122,7 +186,18 @@ impl Progress {
     }
 
     // Compares its last letters.
-    fn compare(&mut self, alloc: Global) -> Result<(), Stop> {
+    fn compare(&mut self, alloc: Global) -> Result<(), Stop>
+        requires going { self.old.point.looped ≡ false }
+        requires choice { IsChoice self.old.point.components Choice.Compare }
+        requires saved { IsSome self.old.point.saved }
+        requires few { event_number self.old.point.events + 1 < 2 ^ 32 }
+        requires steps { self.old.point.steps + 2 < 2 ^ 32 }
+        requires number { self.old.point.number ≤ self.old.point.steps }
+        ensures goes { OnOk result (Goes self.old.d self.old.point self.new.point) }
+        ensures steps { OnOk result (self.new.point.steps ≡ self.old.point.steps + 1) }
+        ensures field { OnOk result (self.new.d ≡ self.old.d) }
+        ensures stops { IfErr result (λ stop. (n : ℕ) → self.old.point.steps < n → StopsRun self.old.d n self.old.point stop) }
+    {
         match self.state.duel() {
             Ok(logged) => {
                 self.steps += 1;
@@ -140,7 +215,15 @@ impl Progress {
     }
 
     // After a won comparison: compares the component with its checkpoint.
-    fn look_back(&mut self, alloc: Global, logged: Logged) -> Result<(), Stop> {
+    fn look_back(&mut self, alloc: Global, logged: Logged) -> Result<(), Stop>
+        requires open { IsOpen self.old.point.components }
+        requires saved { IsSome self.old.point.saved }
+        requires few { event_number self.old.point.events + 1 < 2 ^ 32 }
+        requires number { self.old.point.number + 2 < 2 ^ 32 }
+        ensures looks { OnOk result (LooksBack self.old.d logged self.old.point self.new.point) }
+        ensures field { OnOk result (self.new.d ≡ self.old.d) }
+        ensures stops { IfErr result (OverflowsWhere self.old.point (λ place. IsCompared self.old.d self.old.point (Err place))) }
+    {
         match &self.saved {
             Some(saved) => match self.state.same_shape(&saved.state) {
                 Ok(same) => self.looped = same,
@@ -156,10 +239,16 @@ impl Progress {
         Ok(())
     }
 
-    // Notes an event that has a number, and what it found.
-    fn note(&mut self, logged: Logged) -> Result<(), AllocError> {
-        self.numbered += 1;
+    // Notes an event, and what it found. Each but a closing has a number.
+    fn note(&mut self, logged: Logged) -> Result<(), AllocError>
+        requires { event_number self.old.point.events + 1 < 2 ^ 32 }
+        ensures { OnOk result (self.new ≡ record self.old { point = noted logged self.old.point }) }
+    {
         self.events.push(logged)?;
+        if let Event::Closed = logged.event {
+            return Ok(());
+        }
+        self.numbered += 1;
         if let Some(found) = logged.event.found() {
             self.found.push(found)?;
         }
@@ -167,7 +256,9 @@ impl Progress {
     }
 
     // The states of the current component are numbered from 0 again.
-    fn begin(&mut self, alloc: Global) -> Result<(), AllocError> {
+    fn begin(&mut self, alloc: Global) -> Result<(), AllocError>
+        ensures { OnOk result (self.new ≡ record self.old { point = renumbered self.old.point }) }
+    {
         self.number = 0;
         self.looped = false;
         self.saved = None;
@@ -178,7 +269,9 @@ impl Progress {
     }
 
     // Saves the state.
-    fn save(&mut self, alloc: Global) -> Result<(), AllocError> {
+    fn save(&mut self, alloc: Global) -> Result<(), AllocError>
+        ensures { OnOk result (self.new ≡ record self.old { point = saved_now self.old.point }) }
+    {
         self.saved = Some(Checkpoint {
             number: self.number,
             state: self.state.copy(alloc)?,
@@ -187,7 +280,9 @@ impl Progress {
     }
 
     // The site of a place in the next event.
-    fn stop(&self, place: Place) -> Stop {
+    fn stop(&self, place: Place) -> Stop
+        ensures { result ≡ Stop.Overflow (sites.Event (event_number self.now.point.events) place.0) }
+    {
         Stop::Overflow(Site::Event {
             event: self.numbered,
             place: place.0,
@@ -195,7 +290,9 @@ impl Progress {
     }
 
     // The run, where no component is open.
-    fn finish(self) -> Run {
+    fn finish(self) -> Run
+        ensures { result ≡ record { events = self.point.events; parts = self.point.parts; found = self.point.found; steps = self.point.steps } }
+    {
         let Progress {
             events,
             mut parts,

@@ -1,10 +1,12 @@
 // The states of the induction.
 
 ghost use Rattle.std.specs.Prelude.{◌≡◌, ◌≢◌, ◌↔◌, ◌≤◌, ℕ, IsTrue, Ok, Err, Some, None, List, [], ◌∷◌, length, IfOk, OnOk, OnErr, IfErr, IfSome};
+ghost use Rattle.std.specs.List.{AllByRecursion};
+ghost use Rattle.fs_quadratic.specs.Radicand.{IsRadicand};
 ghost use Rattle.fs_quadratic.specs.Ring.{Quadratic};
 ghost use Rattle.fs_quadratic.specs.declared.steps.Place.{Place};
 ghost use Rattle.fs_plane.specs.Vector.{PlaneVector, vector_zero};
-ghost use Rattle.fs_gluing.specs.Exchanges.{Component, IsExchange};
+ghost use Rattle.fs_gluing.specs.Exchanges.{Component, IsExchange, IsLawful};
 ghost use Rattle.fs_gluing.specs.Surface.{GluedPolygons, IsTranslationSurface};
 ghost use Rattle.fs_rauzy.specs.declared.states.Choice.{Choice};
 ghost use Rattle.fs_rauzy.specs.Events.{HasSplit, HasEqualPrefixes, Outcome};
@@ -82,11 +84,12 @@ impl State {
         ensures returns { IfOk result (λ state. (s : GluedPolygons) (v : PlaneVector) → IsTranslationSurface s → v ≢ vector_zero → s.d ≡ exchange.d
             → IsExchange s v exchange.component → AllGiveReturns s v state.components) }
     {
+        let count = exchange.letters() as usize;
         let letters = read_letters(alloc, &exchange)?;
         let top = read_top(alloc, &exchange)?;
         let bottom = read_bottom(alloc, &exchange)?;
-        let places = no_places(alloc, letters.len())?;
-        let mut extents = Room::new(alloc, letters.len())?;
+        let places = no_places(alloc, count)?;
+        let mut extents = Room::new(alloc, count)?;
         extents.push(Extent {
             first: 0,
             base: Elem::ZERO,
@@ -151,6 +154,7 @@ impl State {
         ensures unchanged { OnErr result (self.new ≡ self.old) }
         ensures field { self.new.d ≡ self.old.d }
         ensures returns { OnOk result (KeepsReturns self.old.d self.old.components self.new.components) }
+        ensures kept { IsRadicand self.old.d × AllByRecursion (IsLawful self.old.d) self.old.components }
     {
         match self.choose() {
             Choice::Split(k) => self.split_at(k),
@@ -164,6 +168,7 @@ impl State {
         requires { IsOpen self.old.components }
         ensures choice { IsChoice self.old.components result }
         ensures unchanged { self.new ≡ self.old }
+        ensures kept { IsRadicand self.old.d × AllByRecursion (IsLawful self.old.d) self.old.components }
     {
         match self.find_split() {
             Some(k) => Choice::Split(k),
@@ -179,16 +184,13 @@ impl State {
         ensures greatest { IfSome result (λ k. AtCurrent (λ c. (j : ℕ) → HasSplit c j → j ≤ k) self.old.components) }
         ensures none { result ≡ None → AtCurrent (λ c. (j : ℕ) → ¬ HasSplit c j) self.old.components }
         ensures unchanged { self.new ≡ self.old }
+        ensures kept { IsRadicand self.old.d × AllByRecursion (IsLawful self.old.d) self.old.components }
     {
         if self.searched {
             return None;
         }
         let first = self.extents.last().first;
-        let greatest = find_greatest(
-            &self.top[first..],
-            &self.bottom[first..],
-            &mut self.places,
-        );
+        let greatest = find_greatest(&self.top[first..], &self.bottom[first..], &mut self.places);
         self.searched = greatest.is_none();
         greatest
     }

@@ -66,8 +66,8 @@ parts : (c : After-find_split_numbers) → get_or c.self.inside.bottom.items (c.
     → c.index.result.now ≡ get_or c.self.inside.bottom.items (c.last-extent.result.first + c.args.k) 0
     → c.index-2.result.now ≡ get_or c.self.inside.top.items (c.last-extent.result.first + c.args.k) 0
     → c.find_split_numbers.result ≡ checked_parts c.last-extent.result.base c.last-extent.result.total c.args.k c.in_ok-sum.sum
-        (get_or c.self.inside.letters.items (get_or c.self.inside.bottom.items (c.last-extent.result.first + c.args.k) 0) no_letter)
-        (get_or c.self.inside.letters.items (get_or c.self.inside.top.items (c.last-extent.result.first + c.args.k) 0) no_letter)
+    (get_or c.self.inside.letters.items (get_or c.self.inside.bottom.items (c.last-extent.result.first + c.args.k) 0) no_letter)
+    (get_or c.self.inside.letters.items (get_or c.self.inside.top.items (c.last-extent.result.first + c.args.k) 0) no_letter)
 parts c s e start end =
     let letters = c.self.inside.letters.items in
     let inside = λ (n m : ℕ) (same : n ≡ m) (l : m < length letters). subst (λ (i : ℕ). i < length letters) (sym same) l in
@@ -116,12 +116,20 @@ kept : (c : After-set_last) → (c.if-is_some.self-inside.field.d ≡ c.self.ins
     × (c.if-is_some.self-inside.bottom.items ≡ c.self.inside.bottom.items) × (c.if-is_some.self-inside.extents ≡ c.self.inside.extents)
     × (length c.if-is_some.self-inside.places.items ≡ length c.self.inside.places.items)
 kept c = elim c.if-is_some.branch [
-  | then-is_some w ↦
-      (ap (λ (s : Inside). s.field.d) w.self-inside-is, ap (λ (s : Inside). s.top.items) w.self-inside-is, ap (λ (s : Inside). s.bottom.items) w.self-inside-is, ap (λ (s : Inside). s.extents) w.self-inside-is,
-        ap (λ (s : Inside). length s.places.items) w.self-inside-is)
-  | else-is_some w ↦
-      (ap (λ (s : Inside). s.field.d) w.self-inside-is, ap (λ (s : Inside). s.top.items) w.self-inside-is, ap (λ (s : Inside). s.bottom.items) w.self-inside-is, ap (λ (s : Inside). s.extents) w.self-inside-is,
-        ap (λ (s : Inside). length s.places.items) w.self-inside-is)
+  | then-is_some w ↦ (
+    ap (λ (s : Inside). s.field.d) w.self-inside-is,
+    ap (λ (s : Inside). s.top.items) w.self-inside-is,
+    ap (λ (s : Inside). s.bottom.items) w.self-inside-is,
+    ap (λ (s : Inside). s.extents) w.self-inside-is,
+    ap (λ (s : Inside). length s.places.items) w.self-inside-is,
+  )
+  | else-is_some w ↦ (
+    ap (λ (s : Inside). s.field.d) w.self-inside-is,
+    ap (λ (s : Inside). s.top.items) w.self-inside-is,
+    ap (λ (s : Inside). s.bottom.items) w.self-inside-is,
+    ap (λ (s : Inside). s.extents) w.self-inside-is,
+    ap (λ (s : Inside). length s.places.items) w.self-inside-is,
+  )
 ]
 
 -- the letters after it
@@ -133,12 +141,12 @@ cleared c = elim c.if-is_some.branch [
   | then-is_some w ↦ inl (
     w.if-is_some.true,
     ap (λ (s : Inside). s.letters.items) w.self-inside-is
-    ∙ written_whole c.self.inside.letters.len w.clear_ends.new.letters c.self.inside.letters.items
-    (c.self.inside.letters.ok.0 ∙ sym (ap length w.deref_mut.ensures.value) ∙ sym w.clear_ends.auto.letters)
-    ∙ w.clear_ends.ensures
-    ∙ ap (λ (ls : List Letter).
-    let first = set ls c.index.result.now (without_start c.index.result.now (get_or ls c.index.result.now no_letter)) in
-    set first c.index-2.result.now (without_end c.index-2.result.now (get_or first c.index-2.result.now no_letter))) w.deref_mut.ensures.value,
+        ∙ written_whole c.self.inside.letters.len w.clear_ends.new.letters c.self.inside.letters.items
+        (c.self.inside.letters.ok.0 ∙ sym (ap length w.deref_mut.ensures.value) ∙ sym w.clear_ends.auto.letters)
+        ∙ w.clear_ends.ensures
+        ∙ ap (λ (ls : List Letter).
+        let first = set ls c.index.result.now (without_start c.index.result.now (get_or ls c.index.result.now no_letter)) in
+        set first c.index-2.result.now (without_end c.index-2.result.now (get_or first c.index-2.result.now no_letter))) w.deref_mut.ensures.value,
   )
   | else-is_some w ↦ inr (w.if-is_some.false, ap (λ (s : Inside). s.letters.items) w.self-inside-is)
 ]
@@ -185,9 +193,9 @@ cleared_at c start end =
       | inl h ↦ inl (
         h.0,
         h.1
-        ∙ (λ i.
-        let first = set letters (start i) (without_start (start i) (get_or letters (start i) no_letter)) in
-        set first (end i) (without_end (end i) (get_or first (end i) no_letter))),
+            ∙ (λ i.
+            let first = set letters (start i) (without_start (start i) (get_or letters (start i) no_letter)) in
+            set first (end i) (without_end (end i) (get_or first (end i) no_letter))),
       )
       | inr h ↦ inr h
     ]
@@ -198,8 +206,8 @@ after : (c : After-push)
     → HasSplit (component_at c.self.inside.letters.items c.self.inside.top.items c.self.inside.bottom.items c.last-extent.result) c.args.k
     → c.find_prefix.result ≡ checked_prefix (letters_at c.self.inside.letters.items (take c.args.k (drop c.last-extent.result.first c.self.inside.top.items)))
     → c.find_split_numbers.result ≡ checked_parts c.last-extent.result.base c.last-extent.result.total c.args.k c.in_ok-sum.sum
-        (get_or c.self.inside.letters.items (get_or c.self.inside.bottom.items (c.last-extent.result.first + c.args.k) 0) no_letter)
-        (get_or c.self.inside.letters.items (get_or c.self.inside.top.items (c.last-extent.result.first + c.args.k) 0) no_letter)
+    (get_or c.self.inside.letters.items (get_or c.self.inside.bottom.items (c.last-extent.result.first + c.args.k) 0) no_letter)
+    (get_or c.self.inside.letters.items (get_or c.self.inside.top.items (c.last-extent.result.first + c.args.k) 0) no_letter)
     → (let letters = c.self.inside.letters.items in
     let starting = get_or c.self.inside.bottom.items (c.last-extent.result.first + c.args.k) 0 in
     let ending = get_or c.self.inside.top.items (c.last-extent.result.first + c.args.k) 0 in
@@ -233,7 +241,7 @@ returns-clause-made c =
     let end = end_read at.After-index-2 (within one).0 in
     let kept_here = kept at.After-set_last in
     let is = after at.After-push (replaced at.After-set_last) (split one) (prefix at.After-find_prefix) (parts at.After-find_split_numbers (starting_in one) (ending_in one) start end)
-        (cleared_at at.After-set_last start end) kept_here.1 kept_here.2 in
+    (cleared_at at.After-set_last start end) kept_here.1 kept_here.2 in
     made_by c.self.view_is (c.numbers.inside.found, refl) is
 
 pub returns-clause-returns : goal.returns-clause-returns
@@ -244,7 +252,7 @@ returns-clause-returns c =
     let end = end_read at.After-index-2 (within one).0 in
     let kept_here = kept at.After-set_last in
     let is = after at.After-push (replaced at.After-set_last) (split one) (prefix at.After-find_prefix) (parts at.After-find_split_numbers (starting_in one) (ending_in one) start end)
-        (cleared_at at.After-set_last start end) kept_here.1 kept_here.2 in
+    (cleared_at at.After-set_last start end) kept_here.1 kept_here.2 in
     returns_by c.self.view_is is
 
 pub invariant_of-self : goal.invariant_of-self
@@ -255,11 +263,10 @@ invariant_of-self c =
     let end = end_read at.After-index-2 (within one).0 in
     let kept_here = kept at.After-set_last in
     let is = after at.After-push (replaced at.After-set_last) (split one) (prefix at.After-find_prefix) (parts at.After-find_split_numbers (starting_in one) (ending_in one) start end)
-        (cleared_at at.After-set_last start end) kept_here.1 kept_here.2 in
+    (cleared_at at.After-set_last start end) kept_here.1 kept_here.2 in
     let components = opened c.if-is_some.self-inside.letters.items c.if-is_some.self-inside.top.items c.if-is_some.self-inside.bottom.items c.push.new.self.items in
     let long = as_long at.After-set_last in
-    let same = c.push.ensures.room ∙ room at.After-set_last in
-    (
+    let same = c.push.ensures.room ∙ room at.After-set_last in (
       subst (λ (d : ℕ). IsState (record { d = d; components = components })) (sym kept_here.0) is.state,
       is.place,
       subst (λ (n : ℕ). n ≤ c.push.new.self.room) (sym long) (subst (λ (n : ℕ). length c.self.inside.letters.items ≤ n) (sym same) c.self.invariant.2),

@@ -82,13 +82,13 @@ after : (c : After-set_last) → AreLastInPlace (λ a b. IsLess c.self.inside.fi
     c.last-extent.result c.args.x c.args.y → let letters = c.self.inside.letters.items in
     c.find_won.result ≡ checked_won (get_or letters c.args.y no_letter) (get_or letters c.args.x no_letter) c.last-extent.result.total (get_or letters c.args.x no_letter).end.vector
     → IsEventInPlace (record { d = c.self.inside.field.d; components = opened letters c.self.inside.top.items c.self.inside.bottom.items c.self.inside.extents.items })
-    (Won false) c.numbers.inside.length (take c.self.inside.letters.len (c.write_won_below.new.letters ++ drop (length c.write_won_below.new.letters) letters)) 
+    (Won false) c.numbers.inside.length (take c.self.inside.letters.len (c.write_won_below.new.letters ++ drop (length c.write_won_below.new.letters) letters))
     (take c.self.inside.top.len (c.move_last_behind.new.row ++ drop (length c.move_last_behind.new.row) c.self.inside.top.items)) c.self.inside.bottom.items c.set_last.new.self.items
 after c there is =
     let letters = c.self.inside.letters.items in
     let numbers = c.in_ok-numbers.numbers in
     let written = λ (ls : List Letter). slice_set (slice_set ls c.args.y (record (slice_index_or ls c.args.y no_letter) { length = numbers.length })) c.args.x
-        (record (slice_index_or ls c.args.x no_letter) { back = numbers.back; end = record (slice_index_or ls c.args.x no_letter).end { vector = numbers.vector } }) in
+    (record (slice_index_or ls c.args.x no_letter) { back = numbers.back; end = record (slice_index_or ls c.args.x no_letter).end { vector = numbers.vector } }) in
     event_at (ap (λ (n : WonNumbers). n.length) c.numbers.view_is) refl refl refl refl
     (won_below_made (field_order c.self.inside.field.radicand) c.last-extent.ensures.1 c.self.invariant.1 c.self.invariant.0 c.args.x c.args.y there numbers (sym is ∙ c.in_ok-numbers.was)
     c.find_name-place.result (subst (λ (row : List ℕ). IsFoundAt row c.args.y c.find_name-place.result) c.deref.ensures.value c.find_name-place.ensures)
@@ -122,6 +122,10 @@ invariant_of-self c =
     let is = after at.After-set_last there (computed at.After-find_won there) in
     let long = ap length (whole at.After-set_last) ∙ c.write_won_below.auto.letters ∙ ap length c.deref_mut.ensures.value in
     let room = c.self.invariant.2 in
-    let same = c.set_last.ensures.room in
-    (is.state, is.place, subst (λ (n : ℕ). n ≤ c.set_last.new.self.room) (sym long) (subst (λ (n : ℕ). length c.self.inside.letters.items ≤ n) (sym same) room), c.self.invariant.3 ∙ sym long,
-      won_searched (field_order c.self.inside.field.radicand) c.self.inside.searched c.self.invariant.0.lawful is.made c.self.invariant.4)
+    let same = c.set_last.ensures.room in (
+      is.state,
+      is.place,
+      subst (λ (n : ℕ). n ≤ c.set_last.new.self.room) (sym long) (subst (λ (n : ℕ). length c.self.inside.letters.items ≤ n) (sym same) room),
+      c.self.invariant.3 ∙ sym long,
+      won_searched (field_order c.self.inside.field.radicand) c.self.inside.searched c.self.invariant.0.lawful is.made c.self.invariant.4,
+    )

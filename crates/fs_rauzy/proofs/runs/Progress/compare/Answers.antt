@@ -1,0 +1,31 @@
+-- A won comparison or a merge is made, or it stops.
+use Rattle.std.proofs.Common.{◌≡◌, ap, arith}
+use Rattle.fs_rauzy.specs.RunsInPlace.{ProgressValue}
+use Rattle.fs_rauzy.proofs.RunCalls.{on_ok, if_err, step_begins, win_goes, look_stops, merge_goes, comparison_stops}
+use Rattle.fs_rauzy.proofs.runs.Progress.compare.Goals as goal
+
+pub look_back-requires-clause-number : goal.look_back-requires-clause-number
+look_back-requires-clause-number c =
+    let n : c.self.inside.number ≡ c.args.self.now.point.number = ap (λ (v : ProgressValue). v.point.number) c.self.view_is in
+    omega (arith, n, c.requires.number, c.requires.steps)
+
+pub returns-in-Won-clause-goes : goal.returns-in-Won-clause-goes
+returns-in-Won-clause-goes c =
+    on_ok c.look_back.result
+    (λ back. win_goes _ _ c.self.view_is c.in-Ok.logged c.duel.new.self.components c.requires.going c.requires.choice c.in-Ok.ensures.made c.in-Won.top c.duel.new.self.d c.look_back.new.self.point c.in-Won.is
+    c.duel.ensures.field back) c.look_back.ensures.looks
+
+pub returns-in-Won-clause-stops : goal.returns-in-Won-clause-stops
+returns-in-Won-clause-stops c =
+    if_err c.look_back.result
+    (λ stop h. look_stops _ _ c.self.view_is c.in-Ok.logged c.duel.new.self.components c.requires.going c.requires.choice c.in-Ok.ensures.made c.in-Won.top c.duel.new.self.d stop c.in-Won.is c.duel.ensures.field h)
+    c.look_back.ensures.stops
+
+pub returns-in_ok-begin-in_default-clause-goes : goal.returns-in_ok-begin-in_default-clause-goes
+returns-in_ok-begin-in_default-clause-goes c =
+    merge_goes _ _ c.self.view_is c.in-Ok.logged c.duel.new.self.components c.requires.going c.requires.choice c.in-Ok.ensures.made c.note.new.self.point c.begin.new.self.point
+    (step_begins c.in-Ok.logged.event c.in-Ok.ensures.made.kind c.in_default.not-Won) (ap (λ (v : ProgressValue). v.point) c.in_ok-note-in_default.ensures)
+    (ap (λ (v : ProgressValue). v.point) c.in_ok-begin-in_default.ensures)
+
+pub returns-in-Err-clause-stops : goal.returns-in-Err-clause-stops
+returns-in-Err-clause-stops c = comparison_stops _ _ c.self.view_is c.in-Err.place c.stop.result c.requires.going c.requires.choice c.in-Err.ensures.stops c.stop.ensures
