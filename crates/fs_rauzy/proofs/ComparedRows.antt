@@ -1,5 +1,5 @@
 -- The current components of two states, where they are compared.
-use Rattle.std.proofs.Common.{◌≡◌, ◌≢◌, ℕ, Bool, true, false, not, eqb, ◌<◌, length, List, [], ◌∷◌, drop, take, Result, Ok, IsTrue, ◌↔◌, IfOk, refl, sym, ap, ◌∙◌, subst}
+use Rattle.std.proofs.Common.{◌≡◌, ◌≢◌, ℕ, Bool, true, false, not, eqb, ◌<◌, length, List, [], ◌∷◌, drop, Result, Ok, IsTrue, ◌↔◌, IfOk, refl, sym, ap, ◌∙◌, subst}
 use Rattle.std.proofs.lemmas.Bool.Decides.{Decides-eqb}
 use Rattle.std.proofs.lemmas.Slice.Eq.{slice_eq-Decides}
 use Rattle.std.specs.List.{AllByRecursion}

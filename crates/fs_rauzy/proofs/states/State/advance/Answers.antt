@@ -1,5 +1,5 @@
 -- The rule's choice leaves the state as it was, so what its event keeps is kept.
-use Rattle.std.proofs.Common.{◌≡◌, OnOk, subst}
+use Rattle.std.proofs.Common.{OnOk, subst}
 use Rattle.fs_rauzy.specs.FirstReturns.{KeepsReturns}
 use Rattle.fs_rauzy.specs.States.{StateValue}
 use Rattle.fs_rauzy.proofs.states.State.advance.Goals as goal

@@ -1,5 +1,5 @@
 -- The exchange is the one open component.
-use Rattle.std.proofs.Common.{◌≡◌, ◌≤◌, ℕ, List, [], ◌∷◌, length, sym, ap, ◌∙◌, subst, arith}
+use Rattle.std.proofs.Common.{List, ◌∷◌, length, sym, ap, ◌∙◌, subst, arith}
 use Rattle.fs_quadratic.specs.Ring as ring
 use Rattle.fs_gluing.specs.Exchanges.{Component}
 use Rattle.fs_rauzy.specs.States.{IsState}

@@ -1,7 +1,5 @@
 -- The rows of both current components are compared, and then their lengths.
-use Rattle.std.proofs.Common.{◌<◌, length, Ok, false, ℕ, List, sym, ap, ◌∙◌, subst}
-use Rattle.std.specs.List.{AllByRecursion}
-use Rattle.fs_gluing.specs.Exchanges.{Letter}
+use Rattle.std.proofs.Common.{Ok, false, sym, ap, ◌∙◌}
 use Rattle.fs_rauzy.specs.Comparisons.{checked_proportion}
 use Rattle.fs_rauzy.specs.States.{StateValue}
 use Rattle.fs_rauzy.specs.StatesInPlace.{letters_at}

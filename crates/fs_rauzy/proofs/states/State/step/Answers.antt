@@ -1,11 +1,10 @@
 -- There is one next event, or one place: what `advance` makes or tells is it.
-use Rattle.std.proofs.Common.{◌≡◌, Result, Ok, Err, sym, ap}
+use Rattle.std.proofs.Common.{◌≡◌, Result, Ok, Err, ap}
 use Rattle.fs_lists.proofs.Results.{at_exit}
 use Rattle.fs_quadratic.proofs.Laws.{field_order}
 use Rattle.fs_quadratic.specs.declared.steps.Place.{Place}
 use Rattle.fs_rauzy.specs.declared.events.Event.{Event}
 use Rattle.fs_rauzy.specs.Events.{Outcome}
-use Rattle.fs_rauzy.specs.Rule.{IsMade, StopsAt}
 use Rattle.fs_rauzy.proofs.OutcomeUnique.{made_unique, stops_unique, not_made_and_stopped}
 use Rattle.fs_rauzy.proofs.states.State.step.Goals as goal
 
