@@ -1,6 +1,6 @@
 -- What the comparison of a component with an earlier one tells: whether they are alike.
-use Rattle.std.proofs.Common.{◌≡◌, ◌↔◌, ℕ, zero, suc, ◌+◌, ◌*◌, Bool, true, false, cond, List, [], ◌∷◌, Some, None, Result, Ok, Err, IsTrue, IfOk, refl, sym, ap, ◌∙◌, subst, inl, inr}
-use Rattle.std.proofs.lemmas.Bool.{cases_eq}
+use Rattle.std.proofs.Common.{◌≡◌, ◌↔◌, ℕ, zero, suc, ◌+◌, ◌*◌, Bool, true, false, cond, List, [], ◌∷◌, Some, Result, Ok, Err, IsTrue, IfOk, refl, sym, ◌∙◌, subst, inl, inr}
+use Rattle.std.proofs.lemmas.Bool.{cases_Bool}
 use Rattle.std.proofs.lemmas.Option.{same_Some, none-some}
 use Rattle.std.specs.List.{slice_get}
 use Rattle.fs_quadratic.specs.Checked.{step, ◌>>=◌, checked_product}
@@ -26,7 +26,7 @@ after_step n false value next P h = tt
 if_same : (p q : Quadratic) (r : Result Bool Place) (P : Bool → Type 0) → (p ≡ q → IfOk r P) → ((p ≡ q → ⊥) → P false) → IfOk (cond (is_same_number p q) r (Ok false)) P
 if_same p q r P same other =
     let decides = Decides-is_same_number p q in
-    elim (cases_eq (is_same_number p q)) [
+    elim (cases_Bool (is_same_number p q)) [
       | inl e ↦ subst (λ b. IfOk (cond b r (Ok false)) P) (sym e) (same (decides.0 e))
       | inr e ↦ subst (λ b. IfOk (cond b r (Ok false)) P) (sym e) (other (λ h. false_true (sym e ∙ decides.1 h)))
     ]

@@ -1,5 +1,5 @@
 -- The parts of a run ascend: each open component ends where the latest part begins, or left of that.
-use Rattle.std.proofs.Common.{◌≡◌, ◌≢◌, ◌⊎◌, ℕ, Bool, true, false, Option, List, [], ◌∷◌, ◌++◌, refl, sym, ap, ◌∙◌, subst, inl, inr}
+use Rattle.std.proofs.Common.{◌≡◌, ◌≢◌, ℕ, Bool, true, false, Option, List, [], ◌∷◌, ◌++◌, refl, sym, ap, ◌∙◌, subst, inl, inr}
 use Rattle.std.specs.List.{AllByRecursion}
 use Rattle.fs_lists.specs.Members.{IsIn}
 use Rattle.fs_lists.proofs.Members.{All-member, in_append_right}
@@ -8,8 +8,7 @@ use Rattle.fs_ring.specs.Operations as operations
 use Rattle.fs_ring.specs.Operations.{Operations}
 use Rattle.fs_ring.proofs.Order as order
 use Rattle.fs_ring.proofs.Signs as signs
-use Rattle.fs_ring.proofs.Solver.{expressions as E, identity, ◌⊕◌, ◌⊖◌, ◌≐◌}
-use Rattle.fs_quadratic.specs.Ring as ring
+use Rattle.fs_ring.proofs.Solver.{identity, ◌⊕◌, ◌⊖◌, ◌≐◌}
 use Rattle.fs_quadratic.specs.Ring.{Quadratic, quadratic, IsPositive, add, sub}
 use Rattle.fs_gluing.specs.Exchanges.{Letter, Component, IsLawful}
 use Rattle.fs_rauzy.specs.declared.events.Event.{Event}
@@ -18,9 +17,9 @@ use Rattle.fs_rauzy.specs.declared.events.Found.{Found}
 use Rattle.fs_rauzy.specs.declared.parts.Kind.{Kind}
 use Rattle.fs_rauzy.specs.declared.parts.Part.{Part}
 use Rattle.fs_rauzy.specs.Events.{Outcome, Makes, IsWonByTop, IsWonByBottom, IsMerged, IsSplit, prefix_sum}
-use Rattle.fs_rauzy.specs.Runs.{Point, part_of, start_of, begun, Goes, Leads, no_event, event, ArePartsAscending}
+use Rattle.fs_rauzy.specs.Runs.{Point, part_of, start_of, Goes, Leads, no_event, event, ArePartsAscending}
 use Rattle.fs_rauzy.specs.States.{IsState, AreDescending}
-use Rattle.fs_rauzy.proofs.RunSteps.{Becomes, ClosesLoop, ClosesAs, StepsTo, AfterEvent, goes_cases, after_open}
+use Rattle.fs_rauzy.proofs.RunSteps.{Becomes, AfterEvent, goes_cases, after_open}
 use Rattle.fs_rauzy.proofs.RunUnique.{led_state}
 
 module _ {A : Type 0} {R : Operations A} {P : A → Type 0} (L : IsOrderedRing R P) where

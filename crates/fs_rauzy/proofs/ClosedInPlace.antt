@@ -1,5 +1,5 @@
 -- The lists of a state whose current component closes.
-use Rattle.std.proofs.Common.{◌≡◌, ℕ, List, [], ◌∷◌, take, Ok, refl, sym, ap, ◌∙◌, subst}
+use Rattle.std.proofs.Common.{◌≡◌, ℕ, List, ◌∷◌, take, refl, sym, ap, ◌∙◌, subst}
 use Rattle.fs_quadratic.specs.Ring as ring
 use Rattle.fs_gluing.specs.Exchanges.{Letter, Component}
 use Rattle.fs_rauzy.specs.declared.events.Event.TheVariants.{Closed}

@@ -1,5 +1,5 @@
 -- What the computed numbers of an event are, where all of them fit, and what the comparison of two lengths says.
-use Rattle.std.proofs.Common.{◌≡◌, ◌≢◌, ◌&&◌, ℕ, ◌+◌, Bool, true, false, if◌then◌else◌, Option, Some, None, Result, Ok, Err, List, [], ◌∷◌, length, map, refl, sym, ap, ◌∙◌, subst, ◌↔◌}
+use Rattle.std.proofs.Common.{◌≡◌, ◌&&◌, ℕ, ◌+◌, Bool, true, false, if◌then◌else◌, Option, Some, None, Result, Ok, List, [], ◌∷◌, map, sym, ap, ◌∙◌, ◌↔◌}
 use Rattle.std.specs.declared.cmp.Ordering.{Ordering}
 use Rattle.std.specs.declared.cmp.Ordering.TheVariants.{Less, Equal, Greater}
 use Rattle.fs_ring.specs.OrderedRing.{IsOrderedRing, less, equal, greater}
@@ -15,10 +15,10 @@ use Rattle.fs_plane.specs.Formulas.{vector_sum_after}
 use Rattle.fs_plane.specs.Vector.{PlaneVector, vector_add}
 use Rattle.fs_plane.proofs.ComputedSigns.{after_value}
 use Rattle.fs_plane.proofs.FormulaLaws.{sum_value}
-use Rattle.fs_gluing.specs.Exchanges.{Letter, Component}
+use Rattle.fs_gluing.specs.Exchanges.{Letter}
 use Rattle.fs_rauzy.specs.declared.events.Found.{Found}
-use Rattle.fs_rauzy.specs.Events.{connection, prefix_sum}
-use Rattle.fs_rauzy.specs.Rule.{WonNumbers, MergedNumbers, SplitNumbers, checked_won, checked_merged, checked_connection, checked_lengths, checked_prefix, checked_parts, checked_split, passed}
+use Rattle.fs_rauzy.specs.Events.{connection}
+use Rattle.fs_rauzy.specs.Rule.{WonNumbers, MergedNumbers, SplitNumbers, checked_won, checked_merged, checked_connection, checked_lengths, checked_prefix, checked_parts}
 
 difference_is : (n : ℕ) (x y z : Quadratic) → checked_difference n x y ≡ Ok z → z ≡ sub x y
 difference_is n x y z e = step_value n (is_fitting (sub x y)) (sub x y) z e

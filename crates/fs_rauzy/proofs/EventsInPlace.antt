@@ -1,5 +1,5 @@
 -- What a call that makes an event shows of the lists that a state keeps, and what it knows of them before.
-use Rattle.std.proofs.Common.{◌≡◌, ◌≢◌, ℕ, ◌+◌, ◌<◌, Bool, true, false, Result, Ok, Err, List, [], ◌∷◌, ◌++◌, length, take, drop, refl, sym, ap, ◌∙◌, subst, arith}
+use Rattle.std.proofs.Common.{◌≡◌, ℕ, true, Result, Ok, Err, List, ◌∷◌, ◌++◌, length, take, drop, refl, sym, ap, subst}
 use Rattle.std.proofs.Math.Seq.{take_at}
 use Rattle.std.specs.List.{AllByRecursion}
 use Rattle.fs_lists.specs.Members.{IsIn}
@@ -9,11 +9,11 @@ use Rattle.fs_quadratic.specs.declared.steps.Place.{Place}
 use Rattle.fs_gluing.specs.Exchanges.{Letter, Component, IsLawful}
 use Rattle.fs_rauzy.specs.declared.events.Event.{Event}
 use Rattle.fs_rauzy.specs.declared.rows.Extent.{Extent}
-use Rattle.fs_rauzy.specs.Events.{Makes, Outcome}
+use Rattle.fs_rauzy.specs.Events.{Makes}
 use Rattle.fs_rauzy.specs.FirstReturns.{KeepsReturns}
 use Rattle.fs_rauzy.specs.Rule.{Tests, passed}
 use Rattle.fs_rauzy.specs.States.{StateValue, IsState}
-use Rattle.fs_rauzy.specs.StatesInPlace.{component_at, opened, IsInPlace, IsSearched, AreLastNames}
+use Rattle.fs_rauzy.specs.StatesInPlace.{component_at, opened, IsInPlace, AreLastNames}
 use Rattle.fs_rauzy.specs.Steps.{AtCurrent, IsMadeBy}
 use Rattle.fs_rauzy.proofs.EventReturns.{events_keep_returns}
 use Rattle.fs_rauzy.proofs.LastInPlace.{AreLastInPlace, last_in_place, x_below}

@@ -1,5 +1,5 @@
 -- The one component of an exchange, as a state keeps it.
-use Rattle.std.proofs.Common.{◌≡◌, ℕ, zero, suc, ◌+◌, ◌<◌, ◌≤◌, List, [], ◌∷◌, ◌++◌, length, refl, sym, ap, ◌∙◌, subst, arith, append-nil}
+use Rattle.std.proofs.Common.{◌≡◌, ℕ, zero, suc, ◌+◌, ◌<◌, ◌≤◌, List, [], ◌∷◌, length, refl, sym, ap, ◌∙◌, subst, arith, append-nil}
 use Rattle.std.proofs.lemmas.List.FromFn.{length-range_with_len}
 use Rattle.std.specs.List.{AllByRecursion, range_with_len}
 use Rattle.fs_lists.specs.Members.{IsDistinct}
@@ -9,8 +9,8 @@ use Rattle.fs_gluing.specs.Exchanges.{Letter, Component, names_of}
 use Rattle.fs_iet.specs.ExchangeValue.{ExchangeValue, IsExchangeValue, most_letters}
 use Rattle.fs_iet.proofs.NumbersInRows.{rows_long, bottom_within}
 use Rattle.fs_rauzy.specs.declared.rows.Extent.{Extent}
-use Rattle.fs_rauzy.specs.States.{IsState, open_names}
-use Rattle.fs_rauzy.specs.StatesInPlace.{letters_at, component_at, opened, IsInPlace}
+use Rattle.fs_rauzy.specs.States.{IsState}
+use Rattle.fs_rauzy.specs.StatesInPlace.{letters_at, opened, IsInPlace}
 use Rattle.fs_rauzy.proofs.OpenedRows.{letters_all}
 
 range_below : (i n most : ℕ) → i + n ≤ most → AllByRecursion (λ k. k < most) (range_with_len i n)

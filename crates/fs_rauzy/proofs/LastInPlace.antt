@@ -1,8 +1,8 @@
 -- The last names of the current component's rows, where a state keeps them.
-use Rattle.std.proofs.Common.{◌≡◌, ◌≢◌, ℕ, ◌+◌, ◌<◌, ◌≤◌, List, [], ◌∷◌, ◌++◌, length, get_or, take, drop, refl, sym, ap, ◌∙◌, subst, inl, inr, arith}
-use Rattle.std.proofs.lemmas.List.{map_push, length-append, length-drop}
+use Rattle.std.proofs.Common.{◌≡◌, ◌≢◌, ℕ, ◌+◌, ◌<◌, ◌≤◌, List, [], ◌∷◌, ◌++◌, length, get_or, take, drop, refl, sym, ap, ◌∙◌, subst, inl, arith}
+use Rattle.std.proofs.lemmas.List.{map_push, length-append}
 use Rattle.fs_lists.specs.Members.{IsIn, IsDistinct}
-use Rattle.fs_lists.proofs.Members.{All-member, in_map, in_append_right}
+use Rattle.fs_lists.proofs.Members.{All-member, in_append_right}
 use Rattle.fs_gluing.specs.Exchanges.{Letter, IsLawful, names_of}
 use Rattle.fs_iet.proofs.Rearrangements.{in_permutation, distinct_permutation}
 use Rattle.fs_rauzy.specs.declared.rows.Extent.{Extent}

@@ -3,7 +3,15 @@ pub mod AscendingBases
 pub mod BasesKept
 pub mod BasesMet
 mod ChosenEvents
+mod ClearedEnds
+pub mod ClosedComponents
 mod ClosedInPlace
+mod ComparedRows
+pub mod CornerSides
+pub mod CylinderDirections
+pub mod CylinderFloors
+pub mod CylinderReturns
+pub mod CylinderSides
 pub mod DividedBases
 pub mod DividedComponents
 mod EventNumbers
@@ -14,9 +22,11 @@ mod EventsInPlace
 mod ExchangeInPlace
 mod LastInPlace
 pub mod LastLetters
+mod LastReads
 pub mod LawfulEvents
 pub mod LeftEnds
 pub mod LetterChanges
+pub mod LinePassages
 mod ListsSoFar
 mod MergedInPlace
 mod MergedSteps
@@ -25,7 +35,7 @@ pub mod NamedLetters
 pub mod NumberedEvents
 pub mod OpenedRows
 pub mod OutcomeUnique
-mod Pending
+pub mod PairedSums
 mod Places
 mod PowersOfTwo
 mod Prefixes
@@ -40,9 +50,11 @@ pub mod RunSteps
 pub mod RunUnique
 pub mod RunsUnderWay
 mod SearchedRows
+pub mod ShiftedLines
 pub mod ShortenedComponents
 mod SplitInPlace
 pub mod SplitPlaces
+mod SplitSteps
 pub mod StepExists
 pub mod TakenAfter
 pub mod TouchedKept

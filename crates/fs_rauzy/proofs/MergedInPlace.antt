@@ -6,14 +6,13 @@ use Rattle.std.specs.List.{AllByRecursion}
 use Rattle.fs_lists.specs.Members.{IsIn, IsDistinct}
 use Rattle.fs_lists.proofs.All.{All-prefix, All-suffix}
 use Rattle.fs_lists.proofs.Members.{in_append_left}
-use Rattle.fs_quadratic.specs.Ring.{Quadratic, sub}
+use Rattle.fs_quadratic.specs.Ring.{sub}
 use Rattle.fs_gluing.specs.Exchanges.{Letter, Component, IsLawful}
 use Rattle.fs_iet.specs.ExchangeValue.{most_letters}
 use Rattle.fs_rauzy.specs.declared.events.Event.TheVariants.{Merged}
-use Rattle.fs_rauzy.specs.declared.events.Found.{Found}
 use Rattle.fs_rauzy.specs.declared.rows.Extent.{Extent}
 use Rattle.fs_rauzy.specs.Events.{with_letter, merged_of, connection, IsPutInPlace, IsMerged, Makes, merges}
-use Rattle.fs_rauzy.specs.StatesInPlace.{no_letter, letters_at, component_at, opened, AreLaid, IsInPlace}
+use Rattle.fs_rauzy.specs.StatesInPlace.{no_letter, letters_at, component_at, opened, IsInPlace}
 use Rattle.fs_rauzy.proofs.LastInPlace.{AreLastInPlace, first_within, around_below}
 use Rattle.fs_rauzy.proofs.RowsAround.{All-drop, not_in_take, whole_row, same_front}
 use Rattle.fs_rauzy.proofs.WonInPlace.{with_total}

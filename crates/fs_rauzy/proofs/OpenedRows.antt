@@ -1,5 +1,5 @@
 -- The rows of open components in place: the names of the current component's letters, its beginnings, and what is left where it closes.
-use Rattle.std.proofs.Common.{◌≡◌, ◌↔◌, ℕ, zero, suc, ◌+◌, ◌-◌, ◌<◌, ◌≤◌, List, [], ◌∷◌, ◌++◌, length, map, take, drop, get_or, IsPermutation, refl, sym, ap, ◌∙◌, subst, arith, zero-add, add-zero, length-append, length-drop}
+use Rattle.std.proofs.Common.{◌≡◌, ◌↔◌, ℕ, zero, suc, ◌+◌, ◌-◌, ◌<◌, ◌≤◌, List, [], ◌∷◌, ◌++◌, length, take, drop, get_or, refl, sym, ap, ◌∙◌, subst, arith, zero-add, add-zero, length-append, length-drop}
 use Rattle.std.proofs.lemmas.List.{length-map, length-take-le, take-append-drop, take-map}
 use Rattle.std.proofs.lemmas.List.FromFn.{length-range_with_len, fill_by_all}
 use Rattle.std.specs.List.{AllByRecursion, range_with_len}

@@ -3,9 +3,9 @@ use Rattle.std.proofs.Common.{◌≡◌, ◌≢◌, ℕ, suc, ◌≤◌, List, [
 use Rattle.std.proofs.Math.Seq.{length-take-le, take_at, drop_at}
 use Rattle.std.proofs.lemmas.List.{append_assoc, take-append-drop}
 use Rattle.std.specs.List.{AllByRecursion}
-use Rattle.fs_lists.specs.Members.{IsIn, IsDistinct, AreApart}
+use Rattle.fs_lists.specs.Members.{IsIn, IsDistinct}
 use Rattle.fs_lists.proofs.All.{All-prefix, All-suffix}
-use Rattle.fs_lists.proofs.Equal.{heads_equal, tails_equal}
+use Rattle.fs_lists.proofs.Equal.{tails_equal}
 use Rattle.fs_lists.proofs.Members.{in_append_cases, in_append_right}
 
 module _ {X : Type 0} where

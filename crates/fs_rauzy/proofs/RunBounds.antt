@@ -1,9 +1,8 @@
 -- The numbers of a run: they are in bounds, and each event lessens the steps left or the weight of the open components.
-use Rattle.std.proofs.Common.{◌≡◌, ◌⊎◌, ℕ, ◌+◌, ◌-◌, ◌*◌, ◌<◌, ◌≤◌, Bool, true, false, cond, Option, Some, None, IsSome, List, [], ◌∷◌, ◌++◌, length, refl, sym, ap, ◌∙◌, subst, inl, inr, arith, length-append}
+use Rattle.std.proofs.Common.{◌≡◌, ℕ, ◌+◌, ◌-◌, ◌*◌, ◌<◌, ◌≤◌, Bool, true, false, cond, Option, Some, IsSome, List, [], ◌∷◌, ◌++◌, length, refl, sym, ap, subst, inl, inr, arith, length-append}
 use Rattle.std.proofs.lemmas.List.{length-map}
 use Rattle.fs_ring.specs.OrderedRing.{IsOrderedRing}
 use Rattle.fs_quadratic.specs.Radicand.{IsRadicand}
-use Rattle.fs_quadratic.specs.Ring as ring
 use Rattle.fs_quadratic.specs.Ring.{quadratic, IsPositive}
 use Rattle.fs_gluing.specs.Exchanges.{Letter, Component, names_of}
 use Rattle.fs_rauzy.specs.declared.events.Event.{Event}
@@ -13,14 +12,14 @@ use Rattle.fs_rauzy.specs.declared.parts.Part.{Part}
 use Rattle.fs_rauzy.specs.Events.{Outcome, Makes}
 use Rattle.fs_rauzy.specs.Measures.{weight, weight_taken}
 use Rattle.fs_rauzy.specs.Rule.{is_step}
-use Rattle.fs_rauzy.specs.Runs.{Point, Checkpoint, first_checkpoint, start_of, begun, won_on, is_numbered, event_number, Goes, Leads, no_event, event}
+use Rattle.fs_rauzy.specs.Runs.{Point, Checkpoint, first_checkpoint, start_of, begun, event_number, Goes, Leads, no_event, event}
 use Rattle.fs_rauzy.specs.RunsInPlace.{CanGo}
 use Rattle.fs_rauzy.specs.States.{IsState, open_names}
 use Rattle.fs_rauzy.specs.Steps.{IsOpen}
 use Rattle.fs_quadratic.proofs.Laws.{field_order}
 use Rattle.fs_rauzy.proofs.NumberedEvents.{one_more_event}
 use Rattle.fs_rauzy.proofs.EventWeights.{event_weight}
-use Rattle.fs_rauzy.proofs.RunSteps.{WinsTo, Becomes, ClosesLoop, StepsTo, AfterEvent, goes_cases, after_open, closing, loop_makes, goes_makes}
+use Rattle.fs_rauzy.proofs.RunSteps.{Becomes, AfterEvent, goes_cases, after_open, closing, loop_makes}
 use Rattle.fs_rauzy.proofs.RunUnique.{after_steps, led_state}
 
 -- ---- events in the list

@@ -1,10 +1,10 @@
 -- The calls on a run under way, by the values that they see: x is what its fields say, and now its value.
-use Rattle.std.proofs.Common.{◌≡◌, ℕ, ◌+◌, ◌<◌, ◌≤◌, Bool, true, false, cond, Option, Some, None, IsSome, Result, Ok, Err, OnOk, IfErr, List, [], ◌∷◌, ◌++◌, reverse, refl, sym, ap, ◌∙◌, subst, arith}
+use Rattle.std.proofs.Common.{◌≡◌, ℕ, ◌+◌, ◌<◌, ◌≤◌, Bool, true, false, Option, Some, IsSome, Result, Ok, Err, OnOk, IfErr, List, [], ◌∷◌, ◌++◌, reverse, refl, sym, ap, ◌∙◌, subst}
 use Rattle.std.proofs.lemmas.List.{reverse-append}
 use Rattle.fs_quadratic.specs.declared.steps.Place.{Place}
 use Rattle.fs_plane.specs.declared.sites.Site.TheVariants as sites
 use Rattle.fs_plane.specs.declared.sites.Stop.{Stop}
-use Rattle.fs_plane.specs.declared.sites.Stop.TheVariants.{Undecided, Overflow, NoMemory}
+use Rattle.fs_plane.specs.declared.sites.Stop.TheVariants.{Undecided, Overflow}
 use Rattle.std.specs.List.{AllByRecursion}
 use Rattle.fs_quadratic.proofs.Laws.{field_order}
 use Rattle.fs_gluing.specs.Exchanges.{Component, IsLawful}
@@ -18,7 +18,7 @@ use Rattle.fs_rauzy.specs.declared.parts.Part.{Part}
 use Rattle.fs_rauzy.specs.declared.states.Choice.TheVariants as choices
 use Rattle.fs_rauzy.specs.Events.{Outcome}
 use Rattle.fs_rauzy.specs.Rule.{IsNext, is_step}
-use Rattle.fs_rauzy.specs.Runs.{Point, Checkpoint, part_of, is_numbered, event_number, BeginsAnew, Goes}
+use Rattle.fs_rauzy.specs.Runs.{Point, Checkpoint, part_of, event_number, BeginsAnew, Goes}
 use Rattle.fs_rauzy.specs.RunsInPlace.{ProgressValue, noted, renumbered, checkpoint_of, checkpoint_in, ClosesTo, IsCompared, LooksBack, OverflowsWhere, budget_spent, StopsRun, CanGo}
 use Rattle.fs_rauzy.specs.StatesInPlace.{IsChoice}
 use Rattle.fs_rauzy.specs.Steps.{AtCurrent, SplitsAt, IsMadeBy, IsStoppedBy}
@@ -60,11 +60,11 @@ module _ (x now : ProgressValue) (same : x ≡ now) where
 
   -- a loop closes
   pub loop_goes : (saved : Option Saved) (s : Saved) (q : Point) → x.point.saved ≡ checkpoint_in saved → saved ≡ Some s → now.point.looped ≡ true → IsSome now.point.saved
-      → ClosesTo (Looped s.number x.point.number) x.point q → Goes now.d now.point q
+      → ClosesTo (Looped s.number x.point.number) now.point q → Goes now.d now.point q
   loop_goes saved s q is_saved is looped some closes =
       let in_place : now.point.saved ≡ checkpoint_of s.number s.state.components = ap (λ (v : ProgressValue). v.point.saved) (sym same) ∙ is_saved ∙ ap checkpoint_in is in
       let found = checkpoint_number s.number s.state.components (subst IsSome in_place some) in
-      let closes_now : ClosesTo (Looped s.number now.point.number) now.point q = subst (λ (v : ProgressValue). ClosesTo (Looped s.number v.point.number) v.point q) same closes in
+      let closes_now : ClosesTo (Looped s.number now.point.number) now.point q = subst (λ (v : ProgressValue). ClosesTo (Looped s.number v.point.number) now.point q) same closes in
       changes.goes_by_loop now.d now.point q found.0 looped (in_place ∙ found.1) (subst (λ n. ClosesTo (Looped n now.point.number) now.point q) (sym found.2) closes_now)
 
   -- a cylinder closes

@@ -1,9 +1,7 @@
 -- What the calls on a run under way do with its point: it goes on, or it ends there.
-use Rattle.std.proofs.Common.{◌≡◌, ◌⊎◌, ℕ, ◌+◌, ◌<◌, ◌≤◌, Bool, true, false, cond, Option, Some, None, Result, Ok, Err, List, [], ◌∷◌, ◌++◌, length, refl, sym, ap, ◌∙◌, subst, inl, inr, arith}
+use Rattle.std.proofs.Common.{◌≡◌, ℕ, ◌+◌, ◌<◌, ◌≤◌, Bool, true, false, cond, Option, Some, Result, Ok, Err, List, [], ◌∷◌, ◌++◌, refl, sym, ap, ◌∙◌, subst, inl, inr, arith}
 use Rattle.std.proofs.lemmas.List.{append-nil}
-use Rattle.fs_quadratic.specs.Ring as ring
 use Rattle.fs_quadratic.specs.declared.steps.Place.{Place}
-use Rattle.fs_plane.specs.declared.sites.Site.{Site}
 use Rattle.fs_plane.specs.declared.sites.Site.TheVariants as sites
 use Rattle.fs_plane.specs.declared.sites.Stop.{Stop}
 use Rattle.fs_plane.specs.declared.sites.Stop.TheVariants.{Undecided, Overflow, NoMemory}
@@ -16,8 +14,8 @@ use Rattle.fs_rauzy.specs.declared.parts.Logged.{Logged}
 use Rattle.fs_rauzy.specs.declared.parts.Part.{Part}
 use Rattle.fs_rauzy.specs.declared.states.Choice.TheVariants as choices
 use Rattle.fs_rauzy.specs.Events.{Outcome, Makes}
-use Rattle.fs_rauzy.specs.Rule.{FollowsRule, IsNext, IsMade, StopsAt, Tests, is_step}
-use Rattle.fs_rauzy.specs.Runs.{Point, Checkpoint, IsSaved, part_of, begun, won_on, found_by, event_number, BeginsAnew, IsMadeAt, ComparesAt, Goes, closes_loop, closes_cylinder, begins_anew, finds_loop, wins, wins_and_saves}
+use Rattle.fs_rauzy.specs.Rule.{FollowsRule, IsMade, Tests, is_step}
+use Rattle.fs_rauzy.specs.Runs.{Point, Checkpoint, part_of, begun, won_on, found_by, event_number, BeginsAnew, IsMadeAt, ComparesAt, Goes, closes_loop, closes_cylinder, begins_anew, finds_loop, wins, wins_and_saves}
 use Rattle.fs_rauzy.specs.RunsInPlace.{noted, renumbered, checkpoint_of, ClosesTo, IsCompared, LooksTo, LooksBack, OverflowsWhere, EndsAt, event_stops, comparison_stops, StopsRun}
 use Rattle.fs_rauzy.specs.StatesInPlace.{IsChoice}
 use Rattle.fs_rauzy.specs.Steps.{AtCurrent, SplitsAt, IsMadeBy, IsStoppedBy}

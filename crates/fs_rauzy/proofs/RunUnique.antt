@@ -1,5 +1,5 @@
 -- A run within a budget ends in exactly one way.
-use Rattle.std.proofs.Common.{◌≡◌, ◌⊎◌, ℕ, ◌+◌, ◌<◌, ◌≤◌, Bool, true, false, cond, Some, Ok, Err, Result, List, [], ◌∷◌, refl, sym, ap, ◌∙◌, subst, inl, inr, arith}
+use Rattle.std.proofs.Common.{◌≡◌, ◌⊎◌, ℕ, ◌+◌, ◌<◌, ◌≤◌, Bool, true, false, cond, Ok, Err, Result, List, [], ◌∷◌, refl, sym, ap, ◌∙◌, subst, inl, inr, arith}
 use Rattle.fs_lists.proofs.Results.{ok_not_err}
 use Rattle.fs_ring.specs.OrderedRing.{IsOrderedRing}
 use Rattle.fs_quadratic.specs.Ring.{quadratic, IsPositive}
@@ -11,16 +11,15 @@ use Rattle.fs_gluing.specs.Exchanges.{Component}
 use Rattle.fs_rauzy.specs.declared.events.Event.{Event}
 use Rattle.fs_rauzy.specs.declared.events.Event.TheVariants.{Won, Merged, Split, Closed}
 use Rattle.fs_rauzy.specs.declared.parts.Run.{Run}
-use Rattle.fs_rauzy.specs.Comparisons.{IsComparison}
 use Rattle.fs_rauzy.specs.Events.{Outcome, Makes}
-use Rattle.fs_rauzy.specs.Rule.{IsNext, IsMade, StopsAt, is_step}
+use Rattle.fs_rauzy.specs.Rule.{IsNext, StopsAt, is_step}
 use Rattle.fs_rauzy.specs.Runs as run
-use Rattle.fs_rauzy.specs.Runs.{Point, Checkpoint, start_of, won_on, event_number, ComparesAt, Goes, Leads, no_event, event, EndsRun, ReturnsRun}
+use Rattle.fs_rauzy.specs.Runs.{Point, Checkpoint, start_of, event_number, ComparesAt, Goes, Leads, no_event, event, EndsRun, ReturnsRun}
 use Rattle.fs_rauzy.specs.RunsInPlace.{EndsAt, all_closed, budget_spent, event_stops, comparison_stops}
 use Rattle.fs_rauzy.specs.States.{IsState}
 use Rattle.fs_rauzy.proofs.LawfulEvents.{event_keeps_state}
 use Rattle.fs_rauzy.proofs.OutcomeUnique.{next_unique, stops_unique, not_made_and_stopped}
-use Rattle.fs_rauzy.proofs.RunSteps.{WinsTo, ClosesAs, ClosesLoop, StepsTo, Becomes, AfterEvent, goes_cases, goes_unique, goes_makes, compared_unique}
+use Rattle.fs_rauzy.proofs.RunSteps.{WinsTo, StepsTo, Becomes, AfterEvent, goes_cases, goes_unique, goes_makes, compared_unique}
 
 -- ---- ends of a run, and ends at a point
 

@@ -1,5 +1,5 @@
 -- A run under way: the loop's invariant, and how the run ends.
-use Rattle.std.proofs.Common.{◌≡◌, ℕ, ◌+◌, ◌-◌, ◌<◌, ◌≤◌, Result, Ok, Err, List, [], ◌∷◌, refl, sym, ap, ◌∙◌, subst, arith}
+use Rattle.std.proofs.Common.{◌≡◌, ◌↔◌, ℕ, ◌+◌, ◌-◌, ◌<◌, ◌≤◌, Bool, true, false, IsTrue, Result, Ok, Err, List, [], ◌∷◌, refl, sym, ap, ◌∙◌, subst, arith}
 use Rattle.fs_quadratic.specs.Radicand.{IsRadicand}
 use Rattle.fs_quadratic.proofs.Laws.{field_order}
 use Rattle.fs_plane.specs.declared.sites.Stop.{Stop}
@@ -8,8 +8,8 @@ use Rattle.fs_gluing.specs.Exchanges.{Component}
 use Rattle.fs_rauzy.specs.declared.parts.Run.{Run}
 use Rattle.fs_rauzy.specs.Measures.{weight}
 use Rattle.fs_rauzy.specs.Runs as runs
-use Rattle.fs_rauzy.specs.Runs.{Point, start_of, Goes, Leads, EndsRun, ReturnsRun, ArePartsAscending}
-use Rattle.fs_rauzy.specs.RunsInPlace.{ProgressValue, EndsAt, all_closed, StopsRun, CanGo}
+use Rattle.fs_rauzy.specs.Runs.{start_of, Goes, Leads, EndsRun, ReturnsRun, ArePartsAscending}
+use Rattle.fs_rauzy.specs.RunsInPlace.{ProgressValue, all_closed, StopsRun, CanGo}
 use Rattle.fs_rauzy.specs.States.{StateValue, IsState}
 use Rattle.fs_rauzy.specs.Steps.{IsOpen}
 use Rattle.fs_rauzy.proofs.AscendingBases.{run_ascending}
@@ -25,10 +25,28 @@ pub record IsUnderWay (start : StateValue) (n : ℕ) (v : ProgressValue) : Type 
 pub run_starts : (start : StateValue) (n : ℕ) (v : ProgressValue) → v ≡ record { d = start.d; point = start_of start.components } → IsUnderWay start n v
 run_starts start n v is = subst (IsUnderWay start n) (sym is) (record { field = refl; leads = runs.no_event; within = omega arith })
 
--- some component is open
-pub open_of_not_done : (components : List Component) → (components ≡ [] → ⊥) → IsOpen components
-open_of_not_done [] h = h refl
-open_of_not_done (c ∷ rest) h = tt
+open_of_some : (components : List Component) → (components ≡ [] → ⊥) → IsOpen components
+open_of_some [] h = h refl
+open_of_some (c ∷ rest) h = tt
+
+module _ (x now : ProgressValue) (same : x ≡ now) where
+  as_now : x.point.components ≡ now.point.components
+  as_now = ap (λ (v : ProgressValue). v.point.components) same
+
+  -- some component is open where a test says that it isn't so that none is
+  pub open_here : (done : Bool) → done ≡ false → IsTrue done ↔ (x.point.components ≡ []) → IsOpen now.point.components
+  open_here done is h = open_of_some now.point.components (λ e. let t = h.1 (as_now ∙ e) in absurd (not_true done is t))
+    where
+      not_true : (b : Bool) → b ≡ false → IsTrue b → ⊥
+      not_true true e t = absurd cc
+      not_true false e t = absurd cc
+
+  -- and none is where it says so
+  pub done_here : (done : Bool) → done ≡ true → IsTrue done ↔ (x.point.components ≡ []) → now.point.components ≡ []
+  done_here done is h = sym as_now ∙ h.0 (is_true done is)
+    where
+      is_true : (b : Bool) → b ≡ true → IsTrue b
+      is_true b e = e
 
 module _ (start : StateValue) (n : ℕ) (radicand : IsRadicand start.d) (state : IsState start) (v : ProgressValue) (u : IsUnderWay start n v) where
   -- it can go on where a component is open

@@ -1,10 +1,9 @@
 -- A component whose last letters differ has a next event that is a step, whether or not its numbers fit.
-use Rattle.std.proofs.Common.{◌≡◌, ◌≢◌, ◌⊎◌, ℕ, true, false, List, [], ◌∷◌, ◌++◌, refl, sym, ap, ◌∙◌, subst, inl, inr, append_assoc}
+use Rattle.std.proofs.Common.{◌≡◌, ◌≢◌, ℕ, true, false, List, [], ◌∷◌, ◌++◌, refl, sym, ap, ◌∙◌, subst, inl, inr, append_assoc}
 use Rattle.fs_lists.specs.Members.{IsIn}
 use Rattle.fs_lists.proofs.Members.{in_map, in_append_cases}
-use Rattle.fs_ring.specs.OrderedRing.{IsOrderedRing, Comparison, less, equal, greater}
+use Rattle.fs_ring.specs.OrderedRing.{IsOrderedRing, less, equal, greater}
 use Rattle.fs_ring.proofs.Order as order
-use Rattle.fs_quadratic.specs.Ring as ring
 use Rattle.fs_quadratic.specs.Ring.{quadratic, IsPositive, IsLess, sub}
 use Rattle.fs_gluing.specs.Exchanges.{Letter, Component, IsLawful}
 use Rattle.fs_iet.proofs.LetterRows.{name_in_bottom}
@@ -91,7 +90,7 @@ module _ {d : ℕ} (L : IsOrderedRing (quadratic d) (IsPositive d)) (c : Compone
       record { outcome = record { event = Won false; length = sub y.length x.length; components = after ∷ rest }; made = wins_below c after rest won; step = refl }
 
   by_merge : x.length ≡ y.length → HasStep d (c ∷ rest)
-  by_merge equal =
+  by_merge same =
       let after : Component = record {
         base = c.base;
         total = sub c.total x.length;
@@ -101,7 +100,7 @@ module _ {d : ℕ} (L : IsOrderedRing (quadratic d) (IsPositive d)) (c : Compone
       let put : IsPutInPlace x.name y.name c.bottom after.bottom
       = record { left = a.left; right = a.right; was = around_before x.name y.name last.before_bottom c.bottom last.bottom a; becomes = refl } in
       let merged : IsMerged c after (connection y x)
-      = record { x = x; y = y; last = last; equal = equal; base = refl; sum = refl; top = refl; bottom = put; connected = refl } in
+      = record { x = x; y = y; last = last; equal = same; base = refl; sum = refl; top = refl; bottom = put; connected = refl } in
       record { outcome = record { event = Merged (connection y x); length = y.length; components = after ∷ rest }; made = merges c after rest (connection y x) merged; step = refl }
 
   step_exists : HasStep d (c ∷ rest)

@@ -1,10 +1,10 @@
 -- Won comparisons where a state keeps its components: the letters and the row that are written give the component after the event, and leave the others alone.
-use Rattle.std.proofs.Common.{◌≡◌, ◌≢◌, ℕ, ◌+◌, ◌<◌, ◌≤◌, true, false, List, [], ◌∷◌, ◌++◌, length, get_or, set, take, drop, refl, sym, ap, ◌∙◌, subst, inl, inr, arith}
+use Rattle.std.proofs.Common.{◌≡◌, ℕ, ◌<◌, ◌≤◌, true, false, List, [], ◌∷◌, ◌++◌, length, get_or, set, take, drop, refl, sym, ap, ◌∙◌, subst, inl, inr, arith}
 use Rattle.std.proofs.lemmas.List.{length-set, length-append, map-append}
 use Rattle.std.specs.List.{AllByRecursion}
 use Rattle.fs_lists.specs.Members.{IsIn, IsDistinct}
-use Rattle.fs_lists.proofs.All.{All-append, All-prefix, All-suffix}
-use Rattle.fs_lists.proofs.Members.{in_append_cases, in_append_left, in_append_right, apart_append}
+use Rattle.fs_lists.proofs.All.{All-prefix, All-suffix}
+use Rattle.fs_lists.proofs.Members.{in_append_left, in_append_right}
 use Rattle.fs_quadratic.specs.Ring.{Quadratic, IsLess, sub}
 use Rattle.fs_gluing.specs.Exchanges.{Letter, Component, IsLawful}
 use Rattle.fs_iet.specs.ExchangeValue.{most_letters}
@@ -13,7 +13,7 @@ use Rattle.fs_rauzy.specs.declared.rows.Extent.{Extent}
 use Rattle.fs_rauzy.specs.Events.{with_letter, won_over, lost_below, lost_above, IsMovedBehind, IsWonByTop, IsWonByBottom, Makes, wins_above, wins_below}
 use Rattle.fs_rauzy.specs.StatesInPlace.{no_letter, letters_at, component_at, opened, AreLaid, IsInPlace}
 use Rattle.fs_rauzy.proofs.LastInPlace.{AreLastInPlace, first_within, around_below, around_above}
-use Rattle.fs_rauzy.proofs.RowsAround.{All-drop, distinct_suffix, distinct_across, not_in_take, whole_row, same_front}
+use Rattle.fs_rauzy.proofs.RowsAround.{All-drop, distinct_across, not_in_take, whole_row, same_front}
 use Rattle.fs_rauzy.proofs.WrittenLetters.{AreNamed, AreWithin, AreSameAt, named_set, within_set, letters_at_set, same_at_set, opened_same}
 
 -- ---- a row whose last item moves

@@ -1,25 +1,24 @@
 -- The calls that make won comparisons: from what their callees give, the event and the lists after it; or where it overflows.
-use Rattle.std.proofs.Common.{◌≡◌, ◌≢◌, ℕ, ◌+◌, ◌<◌, Bool, true, false, Result, Ok, Err, List, [], ◌∷◌, ◌++◌, length, get_or, set, take, drop, refl, sym, ap, ◌∙◌, subst, arith}
+use Rattle.std.proofs.Common.{◌≡◌, ℕ, ◌+◌, ◌<◌, Bool, true, false, Ok, Err, List, [], ◌∷◌, ◌++◌, length, get_or, set, take, refl, sym, ◌∙◌, subst}
 use Rattle.std.specs.List.{AllByRecursion}
 use Rattle.fs_lists.specs.Members.{IsIn}
 use Rattle.fs_ring.specs.OrderedRing.{IsOrderedRing}
 use Rattle.fs_quadratic.specs.Ring.{Quadratic, quadratic, IsPositive, IsLess, sub}
 use Rattle.fs_quadratic.specs.declared.steps.Place.{Place}
 use Rattle.fs_gluing.specs.Exchanges.{Letter, Component, IsLawful}
-use Rattle.fs_rauzy.specs.declared.events.Event.{Event}
 use Rattle.fs_rauzy.specs.declared.events.Event.TheVariants.{Won}
 use Rattle.fs_rauzy.specs.declared.rows.Extent.{Extent}
 use Rattle.fs_rauzy.specs.Events.{Makes, wins_above, wins_below}
-use Rattle.fs_rauzy.specs.Rule.{WonNumbers, HasNoSplit, checked_won, is_step, Tests, of_won_above, of_won_below}
+use Rattle.fs_rauzy.specs.Rule.{WonNumbers, checked_won, is_step, Tests, of_won_above, of_won_below}
 use Rattle.fs_rauzy.specs.States.{IsState}
-use Rattle.fs_rauzy.specs.StatesInPlace.{no_letter, component_at, opened, IsInPlace, IsSearched, AreLastNames}
-use Rattle.fs_rauzy.specs.Steps.{AtCurrent, IsStoppedBy}
-use Rattle.fs_rauzy.proofs.EventNumbers.{AreWonNumbers, won_numbers}
-use Rattle.fs_rauzy.proofs.EventsInPlace.{IsEventInPlace, event_in_place, event_at, passed_ok, passed_err, place_at, opened_at, lawful_at, last_at}
+use Rattle.fs_rauzy.specs.StatesInPlace.{no_letter, component_at, opened, IsInPlace, IsSearched}
+use Rattle.fs_rauzy.specs.Steps.{IsStoppedBy}
+use Rattle.fs_rauzy.proofs.EventNumbers.{won_numbers}
+use Rattle.fs_rauzy.proofs.EventsInPlace.{IsEventInPlace, event_in_place, event_at, passed_ok, passed_err, place_at, opened_at, lawful_at}
 use Rattle.fs_rauzy.proofs.LastInPlace.{AreLastInPlace, around_below, around_above, place_below, place_above}
 use Rattle.fs_rauzy.proofs.RowsAround.{whole_row}
 use Rattle.fs_rauzy.proofs.SplitPlaces.{won_above_no_split, won_below_no_split}
-use Rattle.fs_rauzy.proofs.WonInPlace.{won_above_letters, won_above_row, won_above_extent, won_above_component, won_above_makes, won_above_place, won_below_letters, won_below_row, won_below_extent, won_below_component, won_below_makes, won_below_place}
+use Rattle.fs_rauzy.proofs.WonInPlace.{won_above_letters, won_above_row, won_above_extent, won_above_makes, won_above_place, won_below_letters, won_below_row, won_below_extent, won_below_makes, won_below_place}
 
 -- the last place of a name in a row, as it is found
 abbrev pub IsFoundAt : List ℕ → ℕ → ℕ → Type 0

@@ -1,5 +1,5 @@
 -- Letters by their names, and what the write of one letter changes: the components that have its name.
-use Rattle.std.proofs.Common.{◌≡◌, ◌≢◌, ℕ, zero, suc, ◌+◌, ◌<◌, ◌==◌, if◌then◌else◌, List, [], ◌∷◌, length, map, get_or, set, take, drop, refl, sym, ap, ◌∙◌, subst, inl, inr, arith}
+use Rattle.std.proofs.Common.{◌≡◌, ℕ, zero, suc, ◌+◌, ◌<◌, ◌==◌, if◌then◌else◌, List, [], ◌∷◌, length, get_or, set, take, drop, refl, sym, ap, ◌∙◌, subst, inl, inr, arith}
 use Rattle.std.proofs.Math.Seq.{map-set_same}
 use Rattle.std.proofs.lemmas.Bool.Decides.{eqb_tells}
 use Rattle.std.proofs.lemmas.List.{length-set, get_or-set_same, get_or-set_other}
@@ -7,10 +7,10 @@ use Rattle.std.specs.List.{AllByRecursion, range_with_len}
 use Rattle.fs_lists.specs.Members.{IsIn}
 use Rattle.fs_lists.proofs.Equal.{heads_equal, tails_equal}
 use Rattle.fs_lists.proofs.Members.{All-member, in_map_cases}
-use Rattle.fs_gluing.specs.Exchanges.{Letter, Component, names_of}
+use Rattle.fs_gluing.specs.Exchanges.{Letter, names_of}
 use Rattle.fs_rauzy.specs.declared.rows.Extent.{Extent}
 use Rattle.fs_rauzy.specs.Events.{with_letter}
-use Rattle.fs_rauzy.specs.StatesInPlace.{no_letter, letters_at, component_at, opened}
+use Rattle.fs_rauzy.specs.StatesInPlace.{no_letter, letters_at, opened}
 
 -- each letter is at its name
 abbrev pub AreNamed : List Letter → Type 0

@@ -1,5 +1,5 @@
 -- The comparison of a component with an earlier one up to scale, as it is computed.
-use Rattle.std.specs.Prelude.{◌≡◌, ℕ, ◌+◌, ◌*◌, if◌then◌else◌, Bool, true, false, Result, Ok, List, [], ◌∷◌}
+use Rattle.std.specs.Prelude.{◌≡◌, ℕ, ◌+◌, ◌*◌, if◌then◌else◌, Bool, true, false, Result, Ok, List, ◌∷◌}
 use Rattle.fs_quadratic.specs.Checked.{◌>>=◌, checked_product}
 use Rattle.fs_quadratic.specs.Ring.{Quadratic}
 use Rattle.fs_quadratic.specs.declared.steps.Place.{Place}

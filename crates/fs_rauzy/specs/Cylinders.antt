@@ -2,7 +2,7 @@
 use Rattle.std.specs.Prelude.{ℕ, ◌+◌, ◌<◌, ◌≡◌, length}
 use Rattle.fs_ring.specs.Direction.{IsAlong}
 use Rattle.fs_ring.specs.OrderedRing.{IsAtMost}
-use Rattle.fs_quadratic.specs.Ring.{Quadratic, quadratic, IsPositive, IsLess, zero, add}
+use Rattle.fs_quadratic.specs.Ring.{Quadratic, quadratic, IsPositive, zero, add}
 use Rattle.fs_plane.specs.declared.corners.Corner.{Corner}
 use Rattle.fs_plane.specs.Vector.{PlaneVector}
 use Rattle.fs_gluing.specs.CrossingMap.{block_start, measure, Orbit}

@@ -1,5 +1,5 @@
 -- Loops of the induction: a component that comes back to its own shape, smaller, by won comparisons alone.
-use Rattle.std.specs.Prelude.{◌≡◌, ◌⊎◌, ℕ, Some, map}
+use Rattle.std.specs.Prelude.{◌≡◌, ◌⊎◌, ℕ, Some}
 use Rattle.std.specs.List.{slice_get}
 use Rattle.fs_quadratic.specs.Ring.{IsLess, mul}
 use Rattle.fs_gluing.specs.Exchanges.{Letter, Component, names_of}

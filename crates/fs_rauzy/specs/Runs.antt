@@ -1,5 +1,5 @@
 -- The run of the induction from a state within a budget of steps: its events, its checkpoints, and how it ends.
-use Rattle.std.specs.Prelude.{◌≡◌, ◌⊎◌, ℕ, ◌+◌, ◌^◌, ◌<◌, ◌≤◌, if◌then◌else◌, Bool, true, false, Option, Some, None, Result, Ok, Err, List, [], ◌∷◌, ◌++◌, map}
+use Rattle.std.specs.Prelude.{◌≡◌, ℕ, ◌+◌, ◌^◌, ◌<◌, ◌≤◌, if◌then◌else◌, Bool, true, false, Option, Some, None, Result, Ok, Err, List, [], ◌∷◌, ◌++◌, map}
 use Rattle.fs_ring.specs.OrderedRing.{IsAtMost}
 use Rattle.fs_quadratic.specs.Ring as ring
 use Rattle.fs_quadratic.specs.Ring.{quadratic, IsPositive, add}

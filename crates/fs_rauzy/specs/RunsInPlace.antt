@@ -3,7 +3,6 @@ use Rattle.std.specs.Prelude.{◌≡◌, ◌⊎◌, ℕ, ◌+◌, ◌<◌, ◌�
 use Rattle.fs_quadratic.specs.Radicand.{IsRadicand}
 use Rattle.fs_quadratic.specs.Ring as ring
 use Rattle.fs_quadratic.specs.declared.steps.Place.{Place}
-use Rattle.fs_plane.specs.declared.sites.Site.{Site}
 use Rattle.fs_plane.specs.declared.sites.Site.TheVariants as sites
 use Rattle.fs_plane.specs.declared.sites.Stop.{Stop}
 use Rattle.fs_plane.specs.declared.sites.Stop.TheVariants.{Undecided, Overflow, NoMemory}

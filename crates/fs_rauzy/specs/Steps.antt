@@ -1,5 +1,5 @@
 -- How the calls on a state say what they do with its current component.
-use Rattle.std.specs.Prelude.{◌≡◌, ℕ, Bool, true, Option, Some, None, Ok, Err, List, [], ◌∷◌}
+use Rattle.std.specs.Prelude.{◌≡◌, ℕ, true, Option, Ok, Err, List, [], ◌∷◌}
 use Rattle.fs_quadratic.specs.declared.steps.Place.{Place}
 use Rattle.fs_gluing.specs.Exchanges.{Letter, Component}
 use Rattle.fs_rauzy.specs.declared.events.Event.{Event}

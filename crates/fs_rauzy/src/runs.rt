@@ -5,7 +5,6 @@ ghost use Rattle.fs_quadratic.specs.Radicand.{IsRadicand};
 ghost use Rattle.fs_plane.specs.declared.sites.Site.TheVariants as sites;
 ghost use Rattle.fs_plane.specs.declared.sites.Stop.{Stop};
 ghost use Rattle.fs_rauzy.specs.declared.parts.Run.{Run};
-ghost use Rattle.fs_rauzy.specs.Rule.{StopsAt, is_step};
 ghost use Rattle.fs_rauzy.specs.Runs.{EndsRun, ReturnsRun, ArePartsAscending, Goes, start_of, event_number};
 ghost use Rattle.fs_rauzy.specs.RunsInPlace.{ClosesTo, LooksBack, IsCompared, OverflowsWhere, StopsRun, CanGo, noted, renumbered, saved_now};
 ghost use Rattle.fs_rauzy.specs.States.{IsState};

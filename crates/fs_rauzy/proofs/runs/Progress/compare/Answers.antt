@@ -1,5 +1,5 @@
 -- A won comparison or a merge is made, or it stops.
-use Rattle.std.proofs.Common.{◌≡◌, ℕ, ap, arith}
+use Rattle.std.proofs.Common.{◌≡◌, ap, arith}
 use Rattle.fs_rauzy.specs.RunsInPlace.{ProgressValue}
 use Rattle.fs_rauzy.proofs.RunCalls.{on_ok, if_err, step_begins, win_goes, look_stops, merge_goes, comparison_stops}
 use Rattle.fs_rauzy.proofs.runs.Progress.compare.Goals as goal

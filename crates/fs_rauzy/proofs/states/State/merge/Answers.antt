@@ -1,11 +1,10 @@
 -- The lists before and after the merge, and what is computed of them.
-use Rattle.std.proofs.Common.{rules, ◌≡◌, ◌≢◌, ◌<◌, ◌≤◌, ◌∷◌, ◌++◌, [], ℕ, ◌+◌, true, List, IfErr, slice_set, slice_index_or, Ok, Err, length, take, drop, get_or, sym, ap, ◌∙◌, subst, refl, arith}
+use Rattle.std.proofs.Common.{◌≡◌, ◌<◌, ◌≤◌, ◌∷◌, ◌++◌, [], ℕ, true, List, IfErr, slice_set, slice_index_or, length, take, drop, get_or, sym, ap, ◌∙◌, subst, refl, arith}
 use Rattle.std.proofs.lemmas.List.{get_or_default}
 use Rattle.fs_lists.specs.Members.{IsIn}
 use Rattle.fs_lists.proofs.Results.{at_exit}
 use Rattle.fs_quadratic.proofs.Laws.{field_order}
 use Rattle.fs_gluing.specs.Exchanges.{Letter}
-use Rattle.fs_rauzy.specs.declared.events.Event.{Event}
 use Rattle.fs_rauzy.specs.declared.events.Event.TheVariants.{Merged}
 use Rattle.fs_rauzy.specs.Rule.{MergedNumbers, checked_merged, is_step}
 use Rattle.fs_rauzy.specs.States.{StateValue}

@@ -1,5 +1,5 @@
 -- The rows of the current component begin with the same names exactly where it can be split.
-use Rattle.std.proofs.Common.{◌<◌, sym, ap, ◌∙◌, subst, arith}
+use Rattle.std.proofs.Common.{◌<◌, sym, ap, subst, arith}
 use Rattle.fs_lists.specs.Members.{IsDistinct}
 use Rattle.fs_rauzy.specs.States.{StateValue}
 use Rattle.fs_rauzy.proofs.SearchedRows.{row_slice, now_once, below_once, letters_told, split_told}

@@ -1,18 +1,16 @@
 -- The lists before and after the comparison, and what is computed of them.
-use Rattle.std.proofs.Common.{rules, ◌≡◌, ◌≢◌, ◌<◌, ◌≤◌, ◌∷◌, ◌++◌, ℕ, ◌+◌, true, false, List, IfErr, slice_set, slice_index_or, Ok, Err, length, take, drop, get_or, sym, ap, ◌∙◌, subst, refl}
+use Rattle.std.proofs.Common.{rules, ◌≡◌, ◌<◌, ◌≤◌, ◌∷◌, ◌++◌, ℕ, ◌+◌, true, false, List, IfErr, slice_set, slice_index_or, length, take, drop, get_or, sym, ap, ◌∙◌, subst, refl}
 use Rattle.std.proofs.lemmas.List.{get_or_default}
 use Rattle.fs_lists.specs.Members.{IsIn}
 use Rattle.fs_lists.proofs.Results.{at_exit}
 use Rattle.fs_quadratic.specs.Ring.{IsLess}
 use Rattle.fs_quadratic.proofs.Laws.{field_order}
 use Rattle.fs_gluing.specs.Exchanges.{Letter}
-use Rattle.fs_rauzy.specs.declared.events.Event.{Event}
 use Rattle.fs_rauzy.specs.declared.events.Event.TheVariants.{Won}
 use Rattle.fs_rauzy.specs.Rule.{WonNumbers, checked_won, is_step}
 use Rattle.fs_rauzy.specs.States.{StateValue}
 use Rattle.fs_rauzy.specs.StatesInPlace.{no_letter, opened, AreLastNames}
-use Rattle.fs_rauzy.specs.Steps.{AtCurrent, IsMadeBy, IsStoppedBy}
-use Rattle.fs_rauzy.specs.FirstReturns.{KeepsReturns}
+use Rattle.fs_rauzy.specs.Steps.{AtCurrent, IsStoppedBy}
 use Rattle.fs_rauzy.proofs.EventsInPlace.{IsEventInPlace, event_at, made_by, returns_by, last_at, y_in_top, written_whole}
 use Rattle.fs_rauzy.proofs.LastInPlace.{AreLastInPlace}
 use Rattle.fs_rauzy.proofs.WonSteps.{IsFoundAt, won_below_stops, won_below_made, won_below_place_within, won_searched}
