@@ -1,0 +1,2 @@
+pub mod ExchangeAreas
+pub mod PolygonAreas

@@ -9,6 +9,7 @@ pub mod LetterChanges
 pub mod NameRows
 pub mod NamedLetters
 pub mod OutcomeUnique
+pub mod PairedSums
 pub mod RowEnds
 pub mod RowIntervals
 pub mod ShortenedComponents

@@ -4,6 +4,7 @@ pub mod Events
 pub mod FirstReturns
 pub mod Loops
 pub mod Measures
+pub mod Pairings
 pub mod Rooms
 pub mod Rule
 pub mod Runs
