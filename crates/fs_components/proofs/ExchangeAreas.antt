@@ -81,7 +81,7 @@ module _ {A : Type 0} {R : Operations A} (L : IsCommutativeRing R) where
       E.neg (plane.cross E u v) ⊗ plane.dot E v (sub_vector E (add_vector E p u) q) ⊕ E.neg (plane.cross E u v) ⊗ plane.dot E v (sub_vector E (add_vector E p u) q)
       ≐ share E v p u ⊕ share E v q (neg_vector E u)) refl
 
-  -- a side along the flow adds nothing
+  -- a side that is parallel to v adds nothing
   no_share : (v p u : Vector A) → plane.cross R u v ≡ R.zero → share R v p u ≡ R.zero
   no_share v p u e =
       ap (λ w. R.mul (R.neg w) (R.add (plane.dot R v p) (plane.dot R v (add_vector R p u)))) e

@@ -1,2 +1,3 @@
 pub mod ExchangeAreas
+pub mod PairedAreas
 pub mod PolygonAreas
