@@ -1,6 +1,7 @@
 mod AlongSides
 pub mod ConnectionsUnique
 mod EqualListed
+pub mod ExchangeAreas
 pub mod ExchangeStates
 mod FlowEnds
 pub mod FlowUnique
@@ -10,7 +11,9 @@ mod LowestDenominators
 mod MeasureSteps
 mod MeasuredParts
 pub mod MeasuresUnique
+pub mod PairedAreas
 mod PendingMeaning
 mod PickedSides
+pub mod PolygonAreas
 pub mod RunSizes
 mod SortedLists
