@@ -12,7 +12,6 @@ mod MeasureSteps
 mod MeasuredParts
 pub mod MeasuresUnique
 pub mod PairedAreas
-mod PendingMeaning
 mod PickedSides
 pub mod PolygonAreas
 pub mod RunSizes

@@ -5,7 +5,6 @@ use Rattle.fs_components.specs.Flows.{EndsFlow, ReturnsFlow}
 use Rattle.fs_components.proofs.ExchangeStates.{given_sizes}
 use Rattle.fs_components.proofs.FlowEnds.{run_read, exchange_ended, run_ended, is_run, connections_ended, parts_ended, flow_ended}
 use Rattle.fs_components.proofs.FlowUnique.{flow_returned}
-use Rattle.fs_components.proofs.PendingMeaning.{flow_means}
 use Rattle.fs_components.proofs.flow.find_flow.Goals as goal
 
 pub returns-in_err-exchange-clause-flow : goal.returns-in_err-exchange-clause-flow
@@ -77,8 +76,3 @@ returns-clause-flow c =
 pub returns-clause-only : goal.returns-clause-only
 returns-clause-only c =
     flow_returned c.args.surface.now c.args.v c.args.budget c.field.ensures.surface c.requires.direction (Ok (record { connections = c.in_ok-connections.connections; parts = c.in_ok-parts.parts; steps = c.in_ok-run.run'.steps })) (returns-clause-flow c)
-
-pub returns-clause-means : goal.returns-clause-means
-returns-clause-means c =
-    flow_means c.args.surface.now c.field.ensures.surface c.args.v c.requires.direction c.args.budget
-    (record { connections = c.in_ok-connections.connections; parts = c.in_ok-parts.parts; steps = c.in_ok-run.run'.steps }) (returns-clause-flow c)
