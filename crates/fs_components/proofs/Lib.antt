@@ -10,9 +10,13 @@ mod ListedConnections
 mod LowestDenominators
 mod MeasureSteps
 mod MeasuredParts
+pub mod MeasuredValues
 pub mod MeasuresUnique
 pub mod PairedAreas
+pub mod PartsMet
 mod PickedSides
 pub mod PolygonAreas
+pub mod RunLoops
+pub mod RunParts
 pub mod RunSizes
 mod SortedLists
