@@ -1,3 +1,4 @@
+mod AlikeComponents
 mod AlongSides
 pub mod ConnectionsUnique
 mod EqualListed
