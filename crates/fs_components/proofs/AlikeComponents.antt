@@ -1,4 +1,4 @@
--- What the comparison of a component with an earlier one tells: whether they are alike. (fs_rauzy has the same file for itself.)
+-- What the comparison of a component with an earlier one tells: whether they are alike. A file of fs_rauzy has the same lemma, for that crate alone.
 use Rattle.std.proofs.Common.{◌≡◌, ◌↔◌, ℕ, zero, suc, ◌+◌, ◌*◌, Bool, true, false, cond, List, [], ◌∷◌, Some, Result, Ok, Err, IsTrue, IfOk, refl, sym, ◌∙◌, subst, inl, inr}
 use Rattle.std.proofs.lemmas.Bool.{cases_Bool}
 use Rattle.std.proofs.lemmas.Option.{same_Some, none-some}

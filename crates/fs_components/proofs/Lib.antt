@@ -5,6 +5,7 @@ mod EqualListed
 pub mod ExchangeAreas
 pub mod ExchangeStates
 mod FlowEnds
+mod FlowMeans
 pub mod FlowUnique
 mod KeptConnections
 mod ListedConnections
@@ -14,9 +15,11 @@ mod MeasuredParts
 pub mod MeasuredValues
 pub mod MeasuresUnique
 pub mod PairedAreas
+pub mod PartReturns
 pub mod PartsMet
 mod PickedSides
 pub mod PolygonAreas
+pub mod RunAreas
 pub mod RunLoops
 pub mod RunParts
 pub mod RunSizes

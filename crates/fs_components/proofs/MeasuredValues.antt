@@ -1,5 +1,5 @@
 -- The values of the computed squares and areas of parts.
-use Rattle.std.proofs.Common.{◌≡◌, ◌≢◌, ℕ, ◌+◌, ◌*◌, ◌<◌, pos, Result, Ok, List, [], ◌∷◌, map, refl, sym, ap, ◌∙◌, subst, arith}
+use Rattle.std.proofs.Common.{◌≡◌, ◌≢◌, ℕ, ◌+◌, ◌*◌, ◌<◌, pos, Result, Ok, List, [], ◌∷◌, refl, sym, ap, ◌∙◌, subst, arith}
 use Rattle.std.proofs.Math.Nat.{mul-pos}
 use Rattle.fs_lists.proofs.Results.{ok_equal}
 use Rattle.fs_ring.specs.OrderedRing.{IsOrderedRing}
@@ -7,10 +7,10 @@ use Rattle.fs_ring.specs.Operations.{Operations}
 use Rattle.fs_ring.proofs.Integers.{integer_ring}
 use Rattle.fs_ring.proofs.RingLaws as ring_laws
 use Rattle.fs_ring.proofs.Signs as signs
-use Rattle.fs_ring.proofs.Solver.{expressions as E, identity, derived, numeral, ◌⊗◌, ◌≐◌, ◌from◌}
+use Rattle.fs_ring.proofs.Solver.{identity, derived, numeral, ◌⊗◌, ◌≐◌, ◌from◌}
 use Rattle.fs_quadratic.specs.Checked.{◌>>=◌, checked_product, checked_sum}
 use Rattle.fs_quadratic.specs.Radicand.{IsNoSquare}
-use Rattle.fs_quadratic.specs.Ring.{Quadratic, quadratic, IsPositive, add, mul, total, zero as nil, one}
+use Rattle.fs_quadratic.specs.Ring.{Quadratic, quadratic, IsPositive, add, mul, zero as nil, one}
 use Rattle.fs_quadratic.specs.Width.{is_fitting, is_fitting_mul}
 use Rattle.fs_quadratic.proofs.Laws.{quadratic_eq, quadratic_ring, quadratic_order}
 use Rattle.fs_quadratic.proofs.StepChains.{step_value}

@@ -1,5 +1,5 @@
--- Each part of a run of the exchange of a direction is a closed component with towers, and the flow from each position meets the base of exactly one open component or part. A library for crates to come.
-use Rattle.std.proofs.Common.{◌≡◌, ◌≢◌, ◌⊎◌, ℕ, ◌<◌, List, [], ◌∷◌, ◌++◌, length, map, refl, sym, ap, ◌∙◌, subst, inl, inr}
+-- Each part of a run of the exchange of a direction is a closed component with towers, and the flow from each position meets the base of exactly one open component or part. A library for the crates above.
+use Rattle.std.proofs.Common.{◌≡◌, ◌≢◌, ℕ, ◌<◌, List, [], ◌∷◌, ◌++◌, length, map, refl, sym, subst, inl, inr}
 use Rattle.std.specs.List.{AllByRecursion}
 use Rattle.fs_ring.specs.OrderedRing.{IsOrderedRing}
 use Rattle.fs_quadratic.specs.Ring.{quadratic, IsPositive}
@@ -14,7 +14,7 @@ use Rattle.fs_rauzy.specs.declared.parts.Kind.TheVariants.{Cylinder, Looped}
 use Rattle.fs_rauzy.specs.declared.parts.Part.{Part}
 use Rattle.fs_rauzy.specs.Events.{closes}
 use Rattle.fs_rauzy.specs.Loops.{IsLoop}
-use Rattle.fs_rauzy.specs.Runs.{Point, start_of, part_of, Goes, Leads, no_event, event}
+use Rattle.fs_rauzy.specs.Runs.{Point, start_of, part_of, Leads, no_event, event}
 use Rattle.fs_rauzy.specs.States.{IsState}
 use Rattle.fs_rauzy.specs.Towers.{Base, base_of, HasTowers, IsTouched}
 use Rattle.fs_rauzy.proofs.BasesKept.{closed_base, events_keep_bases}

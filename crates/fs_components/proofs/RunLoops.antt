@@ -1,5 +1,5 @@
--- Where a run closes a component as looped, won comparisons alone led to it from its checkpoint, and it is alike and shorter. A library for crates to come.
-use Rattle.std.proofs.Common.{◌≡◌, ◌⊎◌, ℕ, ◌+◌, ◌<◌, Bool, true, false, Option, Some, None, Ok, List, [], ◌∷◌, refl, sym, ap, ◌∙◌, subst, inl, inr, arith}
+-- Where a run closes a component as looped, won comparisons alone led to it from its checkpoint, and it is alike and shorter. A library for the crates above.
+use Rattle.std.proofs.Common.{◌≡◌, ◌⊎◌, ℕ, ◌+◌, ◌<◌, Bool, true, false, Option, Some, None, Ok, List, [], ◌∷◌, refl, sym, ap, subst, inl, inr, arith}
 use Rattle.std.specs.List.{AllByRecursion}
 use Rattle.fs_lists.specs.Members.{IsIn}
 use Rattle.fs_lists.proofs.Members.{All-member}

@@ -1,5 +1,5 @@
--- How the open components and the parts change where a run goes on: the current component closes, or another event is made. A library for crates to come.
-use Rattle.std.proofs.Common.{◌≡◌, ◌≢◌, ◌⊎◌, ℕ, Bool, true, Some, List, ◌∷◌, length, refl, sym, ap, ◌∙◌, subst, inl, inr}
+-- How the open components and the parts change where a run goes on: the current component closes, or another event is made. A library for the crates above.
+use Rattle.std.proofs.Common.{◌≡◌, ◌≢◌, ◌⊎◌, ℕ, Bool, true, Some, List, ◌∷◌, length, refl, subst, inl, inr}
 use Rattle.fs_gluing.specs.Exchanges.{Component}
 use Rattle.fs_rauzy.specs.declared.events.Event.{Event}
 use Rattle.fs_rauzy.specs.declared.events.Event.TheVariants.{Won, Merged, Split, Closed}

@@ -1,4 +1,4 @@
--- What a decomposition of a flow is to mean: its parts fill the surface, and each is a cylinder or a component with a loop. No contract cites this file yet.
+-- What a decomposition of a flow means: its parts fill the surface, and each is a cylinder or a component with a loop.
 use Rattle.std.specs.Prelude.{◌≡◌, ℕ, ◌*◌, ◌<◌, List, [], ◌∷◌, Some, length, map, take, unsigned_abs}
 use Rattle.std.specs.List.{slice_get, AllByRecursion}
 use Rattle.fs_lists.specs.Members.{IsIn}

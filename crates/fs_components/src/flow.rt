@@ -5,6 +5,7 @@ ghost use Rattle.std.specs.List.{AllByRecursion};
 ghost use Rattle.fs_plane.specs.declared.sites.Stop.{Stop};
 ghost use Rattle.fs_plane.specs.Vector.{vector_zero};
 ghost use Rattle.fs_components.specs.declared.flow.Flow.{Flow};
+ghost use Rattle.fs_components.specs.FlowMeaning.{FlowMeans};
 ghost use Rattle.fs_components.specs.Flows.{EndsFlow, ReturnsFlow, GivesMeasures, AreMeasured, measured};
 ghost use Rattle.fs_components.specs.Gathering.{IsShort, StopsAtMeasure};
 
@@ -42,7 +43,8 @@ pub struct Flow {
 }
 
 /// The decomposition of the flow along `v`, scaled, into cylinders and components with a loop: the parts of the run of its
-/// exchange, each with its measures, and the connections along `v` that are known from the run.
+/// exchange, each with its measures, and the connections along `v` that are known from the run. The parts fill the surface:
+/// the flow from each position comes to the base of exactly one part, and their areas sum to the area of the surface.
 ///
 /// It is refused as `Overflow` at the first site, in this order: those of `find_exchange`, of `find_run`, of `connections`,
 /// and `Value` where a measure of a part overflows, part after part; as `Undecided(budget)` exactly where `find_run` is. The
@@ -55,6 +57,8 @@ pub fn find_flow(alloc: Global, surface: &Surface, v: V2, budget: u32) -> Result
     ensures flow { ReturnsFlow (EndsFlow surface.now v budget) result }
     // There is no other end.
     ensures only { (given : Result Flow Stop) → EndsFlow surface.now v budget given → ReturnsFlow (λ returned. returned ≡ given) result }
+    // The parts fill the surface, and are what they are said to be.
+    ensures means { IfOk result (λ flow. FlowMeans surface.now v flow.parts) }
 {
     // The contract of this call says what holds of the surface.
     let _ = surface.field();
