@@ -23,7 +23,7 @@ use Rattle.fs_rauzy.specs.declared.parts.Run.{Run}
 use Rattle.fs_rauzy.specs.Runs.{Point, Leads, start_of, EndsRun, all_closed, ArePartsAscending}
 use Rattle.fs_rauzy.specs.Towers.{Base, base_of, MeetsBase}
 use Rattle.fs_rauzy.proofs.BasesMet.{AreMetOnce}
-use Rattle.fs_components.proofs.PartsMet.{part_base, IsClosedPart, run_has_parts}
+use Rattle.fs_rauzy.proofs.PartsMet.{part_base, IsClosedPart, run_has_parts}
 use Rattle.fs_components.specs.declared.flow.Flow.{Flow}
 use Rattle.fs_components.specs.declared.flow.Measured.{Measured}
 use Rattle.fs_components.specs.FlowMeaning.{Meets, IsPart, HasSquares, IsQuotient, scaled_area, den_square, FlowMeans}

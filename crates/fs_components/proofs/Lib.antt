@@ -1,4 +1,3 @@
-mod AlikeComponents
 mod AlongSides
 pub mod ConnectionsUnique
 mod EqualListed
@@ -16,11 +15,8 @@ pub mod MeasuredValues
 pub mod MeasuresUnique
 pub mod PairedAreas
 pub mod PartReturns
-pub mod PartsMet
 mod PickedSides
 pub mod PolygonAreas
 pub mod RunAreas
-pub mod RunLoops
-pub mod RunParts
 pub mod RunSizes
 mod SortedLists

@@ -26,7 +26,7 @@ use Rattle.fs_rauzy.specs.Runs.{part_of}
 use Rattle.fs_rauzy.specs.Towers.{HasTowers, IsTouched}
 use Rattle.fs_rauzy.proofs.BasesMet.{holds_base}
 use Rattle.fs_rauzy.proofs.ClosedComponents.{cylinder_of_component}
-use Rattle.fs_components.proofs.PartsMet.{IsClosedAs, IsClosedPart}
+use Rattle.fs_rauzy.proofs.PartsMet.{IsClosedAs, IsClosedPart}
 use Rattle.fs_components.specs.FlowMeaning.{letter_left, HasReturns, IsOfKind}
 
 -- a letter, as a part keeps it

@@ -12,7 +12,7 @@ use Rattle.fs_rauzy.specs.Pairings.{letters_sum, paired_sum}
 use Rattle.fs_rauzy.specs.Runs.{Point, start_of, Leads, no_event, event}
 use Rattle.fs_rauzy.specs.States.{IsState}
 use Rattle.fs_rauzy.proofs.PairedSums.{event_sum}
-use Rattle.fs_components.proofs.RunParts.{Closes, Continues, goes_on_by}
+use Rattle.fs_rauzy.proofs.RunParts.{Closes, Continues, goes_on_by}
 use Rattle.fs_rauzy.proofs.RunUnique.{led_state}
 use Rattle.fs_components.specs.FlowMeaning.{scaled_area}
 use Rattle.fs_components.proofs.PairedAreas.{numbers, along, along_pairing, letters_area}

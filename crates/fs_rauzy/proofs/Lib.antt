@@ -36,6 +36,7 @@ pub mod NumberedEvents
 pub mod OpenedRows
 pub mod OutcomeUnique
 pub mod PairedSums
+pub mod PartsMet
 mod Places
 mod PowersOfTwo
 mod Prefixes
@@ -46,6 +47,8 @@ mod RowsAround
 pub mod RunBounds
 pub mod RunCalls
 pub mod RunChanges
+mod RunLoops
+pub mod RunParts
 pub mod RunSteps
 pub mod RunUnique
 pub mod RunsUnderWay

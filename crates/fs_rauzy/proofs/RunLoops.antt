@@ -14,7 +14,7 @@ use Rattle.fs_rauzy.specs.Events.{IsWonByTop, IsWonByBottom, Outcome, Makes, spl
 use Rattle.fs_rauzy.specs.Loops.{AreAlike, IsWonTo, IsWonPath, none_won, won, IsLoop}
 use Rattle.fs_rauzy.specs.Runs.{Point, Checkpoint, start_of, first_checkpoint, ComparesAt, Goes, closes_loop, closes_cylinder, begins_anew, finds_loop, wins, wins_and_saves, Leads, no_event, event}
 use Rattle.fs_rauzy.specs.States.{IsState}
-use Rattle.fs_components.proofs.AlikeComponents.{alike_of_comparison}
+use Rattle.fs_rauzy.proofs.AlikeComponents.{alike_of_comparison}
 use Rattle.fs_rauzy.proofs.EventRows.{last_in}
 use Rattle.fs_rauzy.proofs.RunUnique.{led_state}
 

@@ -19,8 +19,8 @@ use Rattle.fs_rauzy.specs.States.{IsState}
 use Rattle.fs_rauzy.specs.Towers.{Base, base_of, HasTowers, IsTouched}
 use Rattle.fs_rauzy.proofs.BasesKept.{closed_base, events_keep_bases}
 use Rattle.fs_rauzy.proofs.BasesMet.{AreMetOnce, exchange_base_met}
-use Rattle.fs_components.proofs.RunLoops.{led_to_loop}
-use Rattle.fs_components.proofs.RunParts.{IsClosedAt, Closes, Continues, goes_on_by}
+use Rattle.fs_rauzy.proofs.RunLoops.{led_to_loop}
+use Rattle.fs_rauzy.proofs.RunParts.{IsClosedAt, Closes, Continues, goes_on_by}
 use Rattle.fs_rauzy.proofs.RunSteps.{closing}
 use Rattle.fs_rauzy.proofs.RunUnique.{led_state}
 use Rattle.fs_rauzy.proofs.TouchedKept.{exchange_is_touched, events_keep_touched}
