@@ -30,7 +30,7 @@ use std::marker::Model;
 /// It is refused as `Undecided(budget)` exactly where so many steps are made and the next event is a step, and as `Overflow`
 /// at the first site `Event`: the number of the event, from 0 without closings, and the place, which is one of `State::step`,
 /// or of the comparison after a won one. It is refused as out of memory at any time. The cost is that of the events, each
-/// linear in the letters of its component; an event takes about 130 bytes.
+/// linear in the letters of its component; an event takes about 150 bytes.
 pub fn find_run(alloc: Global, state: State, budget: u32) -> Result<Run, Stop>
     requires { budget ≤ 1000000 }
     ensures run { ReturnsRun (EndsRun state.d budget state.components) result }
