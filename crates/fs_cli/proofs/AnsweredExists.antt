@@ -3,6 +3,7 @@ use Rattle.std.proofs.Common.{◌≤◌, ℕ, List, length, refl, arith}
 use Rattle.fs_io.specs.Whole.{most_bytes}
 use Rattle.fs_lists.proofs.First.{first_or_all}
 use Rattle.fs_gluing.specs.FirstFault.{PassesOf, tests_of}
+use Rattle.fs_job.proofs.SoundDrafts.{job_sound}
 use Rattle.fs_cli.specs.declared.outcome.Status.{Status}
 use Rattle.fs_cli.specs.Answer.{AnswersJob, too_long, no_job, not_built, answered, draft_shape}
 use Rattle.fs_cli.proofs.AnsweredUnique.{JobLaw}
@@ -18,7 +19,7 @@ module _ (law : JobLaw) where
       (λ test first. none _ _ (not_built draft test few reads first refl refl))
       (λ all.
       let s = surface_of_job bytes draft reads all in
-      commands_exist s.0 budget s.1 s.2.straight draft.commands (λ output result texts. none _ _ (answered draft s.0 few reads s.1 s.2 all texts))))
+      commands_exist s.0 budget s.1 s.2.straight draft.commands (job_sound bytes draft reads).0.directions (λ output result texts. none _ _ (answered draft s.0 few reads s.1 s.2 all texts))))
       (λ fault at. none _ _ (no_job fault few at refl refl)))
     where
       by_length : ¬ (length bytes ≤ most_bytes) → ⊥

@@ -11,6 +11,7 @@ use Rattle.fs_io.specs.Faults.{Rose}
 use Rattle.fs_gluing.specs.Surface.{GluedPolygons, IsSurface}
 use Rattle.fs_job.specs.declared.job.Command.{Command}
 use Rattle.fs_gluing.specs.declared.faults.Fault.TheVariants.{NoSuchSide}
+use Rattle.fs_job.specs.Reading.{HasDirection}
 use Rattle.fs_report.specs.Answers.{Answers, HasCorner}
 use Rattle.fs_report.specs.Text.{fault_line}
 use Rattle.fs_report.proofs.AnswersUnique.{answer_unique, answer_exists}
@@ -69,11 +70,11 @@ module _ (s : GluedPolygons) (budget : ℕ) (surface : IsSurface s) (strict : s.
       let other = answers_all_unique commands a.rest b.rest a.rest_partial b.rest_partial a.other b.other in
       (cc, cc)
 
-  -- commands have a text, where the surface has the corners that they name
-  pub answers_all_exists : (commands : List Command) → AllByRecursion (HasCorner s) commands → ((output : List ℕ) (partial : Bool) → ¬ AnswersAll s budget commands output partial) → ⊥
-  answers_all_exists [] all none = none [] false (refl, refl)
-  answers_all_exists (command ∷ commands) all none =
-      answer_exists s budget command surface strict all.0 (λ m p one. answers_all_exists commands all.1 (λ n q other. none (m ++ n) (p || q)
+  -- commands have a text, where the surface has the corners that they name, and no direction is 0,0
+  pub answers_all_exists : (commands : List Command) → AllByRecursion (HasCorner s) commands → AllByRecursion HasDirection commands → ((output : List ℕ) (partial : Bool) → ¬ AnswersAll s budget commands output partial) → ⊥
+  answers_all_exists [] all some none = none [] false (refl, refl)
+  answers_all_exists (command ∷ commands) all some none =
+      answer_exists s budget command surface strict all.0 some.0 (λ m p one. answers_all_exists commands all.1 some.1 (λ n q other. none (m ++ n) (p || q)
       (record { prefix = m; rest = n; prefix_partial = p; rest_partial = q; one = one; other = other; whole = refl; kind = refl })))
 
   -- commands have one answer at most
@@ -91,11 +92,11 @@ module _ (s : GluedPolygons) (budget : ℕ) (surface : IsSurface s) (strict : s.
   only_each commands all output r (no_such_corner command first is text) = absurd (first_not_all (HasCorner s) commands command first all)
   only_each commands all output r (each_answered p all' texts is) = (p, texts, is)
 
-  -- commands have an answer
-  pub commands_exist : (commands : List Command) → ((output : List ℕ) (r : Status) → ¬ AnswersCommands s budget commands output r) → ⊥
-  commands_exist commands none =
+  -- commands of which no direction is 0,0 have an answer
+  pub commands_exist : (commands : List Command) → AllByRecursion HasDirection commands → ((output : List ℕ) (r : Status) → ¬ AnswersCommands s budget commands output r) → ⊥
+  commands_exist commands some none =
       first_or_all (HasCorner s) commands (λ command first. none _ _ (no_such_corner command first refl refl))
-      (λ all. answers_all_exists commands all (λ output partial texts. none _ _ (each_answered partial all texts refl)))
+      (λ all. answers_all_exists commands all some (λ output partial texts. none _ _ (each_answered partial all texts refl)))
 
   -- one command more, after the others
   answers_all_append : (commands : List Command) (command : Command) (m n : List ℕ) (p q : Bool) → AnswersAll s budget commands m p → Answers s budget command n q

@@ -65,6 +65,7 @@ stated_line (commands.Segment line start v) = line
 stated_line commands.Delaunay = 0
 stated_line commands.Cells = 0
 stated_line (commands.Saddles limit) = 0
+stated_line (commands.Flow v) = 0
 
 -- what commands about a surface are answered with
 pub data AnswersCommands (s : GluedPolygons) (budget : ℕ) (commands : List Command) (output : List ℕ) (result : Status) : Type 0 where

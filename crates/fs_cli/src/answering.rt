@@ -104,7 +104,8 @@ fn line_without_corner(surface: &Surface, command: &Command) -> Option<u32>
         | Command::Stratum
         | Command::Delaunay
         | Command::Cells
-        | Command::Saddles { .. } => None,
+        | Command::Saddles { .. }
+        | Command::Flow { .. } => None,
         Command::Segment { line, start, .. } => {
             if surface.has(*start) {
                 None

@@ -15,9 +15,9 @@ use Rattle.fs_plane.specs.Vector.{PlaneVector, vector_zero}
 use Rattle.fs_gluing.specs.Surface.{GluedPolygons}
 use Rattle.fs_rauzy.specs.declared.events.Found.{Found}
 use Rattle.fs_components.specs.Connections.{AreKeepable, AreEntriesOf, no_entry, left_out, kept, EndsConnections, keep_overflows, listed, ReturnsConnections}
-use Rattle.fs_components.proofs.EqualListed.{listed_equal, listed_exact}
+use Rattle.fs_plane.proofs.EqualListed.{listed_equal, listed_exact}
 use Rattle.fs_components.proofs.PickedSides.{connections_unique}
-use Rattle.fs_components.proofs.SortedLists.{sorted_unique}
+use Rattle.fs_lists.proofs.SortedLists.{sorted_unique}
 
 entries_unique : (d : ℕ) (connections : List Found) (one other : List Listed) → AreEntriesOf d connections one → AreEntriesOf d connections other → one ≡ other
 entries_unique d _ _ _ no_entry no_entry = refl

@@ -36,7 +36,7 @@ use Rattle.fs_iet.proofs.ListsInTurn.{maps_equal}
 use Rattle.fs_iet.proofs.Rearrangements.{total_of_members, not_in_without}
 use Rattle.fs_iet.proofs.SideMeasures.{surface_order, outgoing_width, partner_incoming, partner_outgoing, not_both_ways}
 use Rattle.fs_iet.proofs.SidesOfRows.{row_side, in_top_row, in_bottom_row, top_row_distinct, bottom_row_distinct}
-use Rattle.fs_rauzy.proofs.EventRows.{total-append}
+use Rattle.fs_quadratic.proofs.Totals.{total-append}
 use Rattle.fs_components.proofs.PolygonAreas.{share, side_share, sides_area}
 
 -- ---- sums

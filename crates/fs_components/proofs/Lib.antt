@@ -1,6 +1,5 @@
 mod AlongSides
 pub mod ConnectionsUnique
-mod EqualListed
 pub mod ExchangeAreas
 pub mod ExchangeStates
 mod FlowEnds
@@ -19,4 +18,3 @@ mod PickedSides
 pub mod PolygonAreas
 pub mod RunAreas
 pub mod RunSizes
-mod SortedLists

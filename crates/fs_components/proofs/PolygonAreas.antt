@@ -26,7 +26,7 @@ use Rattle.fs_gluing.specs.Positions.{positions_from}
 use Rattle.fs_gluing.specs.Surface.{GluedPolygons, IsTranslationSurface, IsPolygon, side_vectors}
 use Rattle.fs_gluing.specs.SurfaceSides.{vector_or, vector_of}
 use Rattle.fs_gluing.proofs.Sides.AllSides.{corner}
-use Rattle.fs_rauzy.proofs.EventRows.{total-append}
+use Rattle.fs_quadratic.proofs.Totals.{total-append}
 
 -- ---- one side
 

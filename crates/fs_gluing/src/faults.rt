@@ -45,6 +45,8 @@ pub enum Fault {
     Unglued(Corner),
     /// The polygon isn't connected to polygon 0.
     Apart { polygon: u16 },
+    /// A table's reflections have more than 24 products.
+    GroupTooLarge,
     /// There are more than 1,048,576 bytes.
     TooLong,
 }

@@ -1,5 +1,5 @@
 -- The measures of the corners of one polygon: they go from the beginning of its block of positions to the beginning of the next.
-use Rattle.std.proofs.Common.{◌≡◌, ◌≢◌, ℕ, suc, ◌+◌, ◌-◌, ◌<◌, ◌≤◌, Option, Some, None, List, [], ◌∷◌, ◌++◌, map, length, take, refl, sym, ap, ◌∙◌, subst, arith}
+use Rattle.std.proofs.Common.{◌≡◌, ◌≢◌, ℕ, suc, ◌+◌, ◌-◌, ◌<◌, ◌≤◌, Option, Some, None, List, [], ◌∷◌, map, length, take, refl, sym, ap, ◌∙◌, subst, arith}
 use Rattle.std.proofs.lemmas.List.FromFn.{map-range_with_len_more}
 use Rattle.std.specs.List.{slice_get, range_with_len}
 use Rattle.std.specs.Option.{IsSome, option_and_then}
@@ -12,8 +12,9 @@ use Rattle.fs_lists.proofs.All.{All-slice_get}
 use Rattle.fs_ring.specs.OrderedRing.{IsOrderedRing, IsAtMost}
 use Rattle.fs_ring.proofs.Signs as signs
 use Rattle.fs_ring.proofs.Solver.{identity, derived, ◌⊕◌, ◌⊖◌, ◌≐◌, ◌from◌, numeral}
-use Rattle.fs_quadratic.specs.Ring.{Quadratic, quadratic, IsPositive, add, sub, total, zero as nil}
+use Rattle.fs_quadratic.specs.Ring.{Quadratic, quadratic, IsPositive, add, sub, total}
 use Rattle.fs_quadratic.proofs.Laws.{quadratic_ring}
+use Rattle.fs_quadratic.proofs.Totals.{total-append}
 use Rattle.fs_plane.specs.declared.corners.Corner.{Corner}
 use Rattle.fs_plane.specs.Vector.{PlaneVector, vector_zero, vector_total_from, cross}
 use Rattle.fs_convex.proofs.Runs.{IsFourRuns, four_runs}
@@ -32,16 +33,13 @@ use Rattle.fs_iet.proofs.ComputedMeasures.{least_is, positive_part_of_positive, 
 use Rattle.fs_iet.proofs.PolygonSides.{numbered, numbered_next, numbered_below, numbered_polygon, numbered_side, some_side, numbered_again, number_below, number_from, vectors, count_vectors, vector_numbered, total_by_numbers, in_positions, positions_in}
 use Rattle.fs_iet.proofs.SideMeasures.{surface_order, surface_no_square, to_right_after}
 
-total-append : (xs : List Quadratic) (x : Quadratic) → total (xs ++ x ∷ []) ≡ add (total xs) x
-total-append [] x = (quadratic_ring 0).add_comm x nil
-total-append (y ∷ xs) x = ap (add y) (total-append xs x) ∙ sym ((quadratic_ring 0).add_assoc y (total xs) x)
-
 -- the block of the next polygon begins where that of a polygon ends
 pub block_next : (s : GluedPolygons) (v : PlaneVector) (i : ℕ) → block_start s v (suc i) ≡ add (block_start s v i) (width s v i)
 block_next s v i =
     ap (λ (n : ℕ). total (map (width s v) (range_with_len 0 n))) (let e : suc i ≡ i + 1 = omega arith in e)
     ∙ ap total (map-range_with_len_more (width s v) 0 i i (omega arith))
-    ∙ total-append (map (width s v) (range_with_len 0 i)) (width s v i)
+    ∙ total-append (map (width s v) (range_with_len 0 i)) (width s v i ∷ [])
+    ∙ ap (add (block_start s v i)) ((quadratic_ring 0).add_zero (width s v i))
 
 module _ (s : GluedPolygons) (surface : IsTranslationSurface s) where
   -- corner 0 of each polygon

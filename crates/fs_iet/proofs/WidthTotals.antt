@@ -1,5 +1,5 @@
 -- The sum of the widths of all incoming sides is where the last polygon's block of positions ends.
-use Rattle.std.proofs.Common.{◌≡◌, ℕ, suc, ◌+◌, if◌then◌else◌, Bool, true, false, Result, Ok, Err, Some, List, [], ◌∷◌, ◌++◌, length, map, sym, ap, ◌∙◌, refl, arith}
+use Rattle.std.proofs.Common.{◌≡◌, ℕ, suc, ◌+◌, if◌then◌else◌, Bool, true, false, Result, Ok, Err, Some, List, [], ◌∷◌, length, map, sym, ap, ◌∙◌, refl, arith}
 use Rattle.std.proofs.lemmas.List.{map-append}
 use Rattle.std.proofs.lemmas.Option.{get_or_from_slice_get}
 use Rattle.std.proofs.lemmas.Simd.{map-map}
@@ -14,6 +14,7 @@ use Rattle.fs_quadratic.specs.Width.{is_fitting}
 use Rattle.fs_quadratic.specs.declared.steps.Place.{Place}
 use Rattle.fs_quadratic.proofs.StepChains.{step_value}
 use Rattle.fs_quadratic.proofs.Laws.{quadratic_ring}
+use Rattle.fs_quadratic.proofs.Totals.{total-append}
 use Rattle.fs_plane.specs.declared.corners.Corner.{Corner}
 use Rattle.fs_plane.specs.Formulas.{cross_after}
 use Rattle.fs_plane.specs.Vector.{PlaneVector, cross}
@@ -28,11 +29,6 @@ use Rattle.fs_gluing.proofs.Sides.AllSides.{corner}
 use Rattle.fs_iet.specs.ExchangeSites.{add_side, sum_after, measured, checked_total}
 
 -- ---- sums
-
--- the sum of two lists joined
-total-append : (d : ℕ) (xs ys : List Quadratic) → total (xs ++ ys) ≡ add (total xs) (total ys)
-total-append d [] ys = sym (zero_add (quadratic_ring d) (total ys))
-total-append d (x ∷ xs) ys = ap (add x) (total-append d xs ys) ∙ sym ((quadratic_ring d).add_assoc x (total xs) (total ys))
 
 -- a map of numbers that gives what a map of the items of a list gives
 map_by_index : {X Y : Type 0} (f : ℕ → Y) (g : X → Y) (a : ℕ) (xs : List X) → ((k : ℕ) (x : X) → slice_get xs k ≡ Some x → f (a + k) ≡ g x) → map f (range_with_len a (length xs)) ≡ map g xs
@@ -99,7 +95,7 @@ module _ (s : GluedPolygons) (v : PlaneVector) where
   widths_of_sides i (polygon ∷ rest) same =
       let here : slice_get s.polygons i ≡ Some polygon = ap (slice_get s.polygons) (let e : i ≡ i + 0 = omega arith in e) ∙ same 0 in
       ap total (map-append incoming_width (sides_between i 0 (length polygon)) (sides_from (i + 1) rest))
-      ∙ total-append s.d (map incoming_width (sides_between i 0 (length polygon))) (map incoming_width (sides_from (i + 1) rest))
+      ∙ total-append (map incoming_width (sides_between i 0 (length polygon))) (map incoming_width (sides_from (i + 1) rest))
       ∙ (λ t. add (width_of_sides i polygon here t) (widths_of_sides (i + 1) rest (λ k. ap (slice_get s.polygons) (let e : i + 1 + k ≡ i + suc k = omega arith in e) ∙ same (suc k)) t))
 
   -- the sum that is computed is the sum of the widths of all polygons

@@ -1,13 +1,15 @@
 -- The texts of numbers and of pairs: each is read in one way.
-use Rattle.std.proofs.Common.{◌≡◌, ℕ, Bool, true, false, List, [], ◌∷◌, Result, Ok, Err, refl, ap, ◌∙◌, subst}
+use Rattle.std.proofs.Common.{◌≡◌, ℕ, Bool, true, false, List, [], ◌∷◌, ◌++◌, Result, Ok, Err, refl, sym, ap, ◌∙◌, subst, append_assoc}
 use Rattle.std.specs.List.{AllByRecursion}
 use Rattle.fs_fraction.specs.Fraction.{Fraction}
 use Rattle.fs_fraction.specs.Number.{Reads, number, wide_number, zero_denominator, no_number}
 use Rattle.fs_fraction.specs.declared.number.NumberFault.{NumberFault}
 use Rattle.fs_fraction.proofs.Readings.{same_read}
+use Rattle.fs_quadratic.specs.Ring.{Quadratic}
+use Rattle.fs_plane.specs.Vector.{PlaneVector}
 use Rattle.fs_gluing.specs.declared.shapes.Point.{Point}
-use Rattle.fs_job.specs.Statement.{Pair, NumberText, pair_texts}
-use Rattle.fs_job.specs.Draft.{ReadsWhole, ReadsEither, ReadsText, IsNumber, HasBadNumber, IsPoint}
+use Rattle.fs_job.specs.Statement.{Pair, NumberText, pair_texts, whole_texts}
+use Rattle.fs_job.specs.Draft.{ReadsWhole, ReadsEither, ReadsText, IsNumber, HasBadNumber, IsPoint, SpellsWhole, IsVector}
 use Rattle.fs_job.specs.Draft as readings
 use Rattle.fs_lists.specs.First.{IsFirstWithout}
 use Rattle.fs_lists.proofs.First.{first_not_all, first_unique, first_or_all}
@@ -110,3 +112,54 @@ bad_number_second pair x_number fault read fails =
     let x : NumberText = record { whole = false; text = pair.x } in
     let y : NumberText = record { whole = false; text = pair.y } in
     (y, record { before = x ∷ []; after = []; whole = refl; passed = ((x_number, read), tt); fails = λ is. number_not_bad y fault is fails }, fails)
+
+-- ---- pairs of whole numbers
+
+-- a text spells one whole number at most
+spelled_unique : (text : List ℕ) (m n : Quadratic) → SpellsWhole text m → SpellsWhole text n → m ≡ n
+spelled_unique text m n a b = a.2 ∙ (ap (λ (x : Fraction). x.num) (ok_equal a.0 b.0 (whole_unique text (Ok a.0) (Ok b.0) a.1 b.1)) ∙ sym b.2)
+
+-- the texts of a vector are numbers
+pub vector_is_numbers : (pair : Pair) (v : PlaneVector) → IsVector pair v → AllByRecursion IsNumber (whole_texts pair)
+vector_is_numbers pair v is = ((is.0.0, is.0.1), ((is.1.0, is.1.1), tt))
+
+-- two texts that are whole numbers spell a vector
+pub vector_exists : (pair : Pair) → AllByRecursion IsNumber (whole_texts pair) → (v : PlaneVector) × IsVector pair v
+vector_exists pair all = (record { x = all.0.0.num; y = all.1.0.0.num }, ((all.0.0, all.0.1, refl), (all.1.0.0, all.1.0.1, refl)))
+
+-- a pair spells one vector at most
+pub vector_unique : (pair : Pair) (v w : PlaneVector) → IsVector pair v → IsVector pair w → v ≡ w
+vector_unique pair v w a b =
+    let x = spelled_unique pair.x v.x w.x a.0 b.0 in
+    let y = spelled_unique pair.y v.y w.y a.1 b.1 in
+    λ i. record { x = x i; y = y i }
+
+-- the first text of a pair is no whole number
+pub bad_whole_first : (pair : Pair) (fault : NumberFault) → HasBadNumber (record { whole = true; text = pair.x } ∷ []) fault → HasBadNumber (whole_texts pair) fault
+bad_whole_first pair fault bad =
+    let y : NumberText = record { whole = true; text = pair.y } in (
+      bad.0,
+      record {
+        before = bad.1.before;
+        after = bad.1.after ++ y ∷ [];
+        whole = ap (λ (texts : List NumberText). texts ++ y ∷ []) bad.1.whole ∙ append_assoc bad.1.before (bad.0 ∷ bad.1.after) (y ∷ []);
+        passed = bad.1.passed;
+        fails = bad.1.fails;
+      },
+      bad.2,
+    )
+
+-- the first text of a pair is a whole number, and the second isn't
+pub bad_whole_second : (pair : Pair) (n : Quadratic) (fault : NumberFault) → SpellsWhole pair.x n → HasBadNumber (record { whole = true; text = pair.y } ∷ []) fault → HasBadNumber (whole_texts pair) fault
+bad_whole_second pair n fault read bad =
+    let x : NumberText = record { whole = true; text = pair.x } in (
+      bad.0,
+      record {
+        before = x ∷ bad.1.before;
+        after = bad.1.after;
+        whole = ap (λ (texts : List NumberText). x ∷ texts) bad.1.whole;
+        passed = ((read.0, read.1), bad.1.passed);
+        fails = bad.1.fails;
+      },
+      bad.2,
+    )

@@ -1,11 +1,11 @@
 -- Words spell at most one statement, and which words spell none.
-use Rattle.std.proofs.Common.{◌≡◌, ◌≢◌, ℕ, ◌≤◌, List, [], ◌∷◌, ◌⊎◌, eqb, inl, inr, refl, sym, ap, ◌∙◌, subst, arith}
+use Rattle.std.proofs.Common.{◌≡◌, ◌≢◌, ℕ, ◌<◌, ◌≤◌, List, [], ◌∷◌, ◌⊎◌, eqb, inl, inr, refl, sym, ap, ◌∙◌, subst, arith}
 use Rattle.std.specs.Prelude.{codes, ◌==◌, if◌then◌else◌}
 use Rattle.std.specs.Str.{bytes_eq}
 use Rattle.fs_plane.specs.declared.corners.Corner.{Corner}
 use Rattle.fs_job.specs.Pieces.{pieces}
-use Rattle.fs_job.specs.Statement.{Pair, SpellsNumeral, SpellsCorner, IsPair, ArePairs, StatedCommand, check, stratum, segment, delaunay, cells, saddles, SpellsCommand, Statement, field_line, polygon_line, glue_line, command_line, end_line, SpellsStatement}
-use Rattle.fs_job.specs.Line.{SpellsField, SpellsGlue, SpellsSegment}
+use Rattle.fs_job.specs.Statement.{Pair, SpellsNumeral, SpellsCorner, IsPair, ArePairs, StatedCommand, check, stratum, segment, delaunay, cells, saddles, flow, SpellsCommand, Statement, field_line, polygon_line, glue_line, command_line, end_line, SpellsStatement}
+use Rattle.fs_job.specs.Line.{SpellsField, SpellsGlue, SpellsSegment, SpellsFlow}
 use Rattle.fs_lists.proofs.Equal.{heads_equal, tails_equal}
 use Rattle.fs_job.proofs.Pairs.{pair_unique, pairs_unique}
 
@@ -57,6 +57,10 @@ pub end_not_pair : (words rest : List (List ℕ)) (word last : List ℕ) → wor
 end_not_pair words rest word last e f none start pair s =
     none pair.x pair.y (subst (λ u. IsPair u pair) (only_word_unique s.1 last rest (two_words words rest word s.0 s.1 e s.2).1 f) s.4)
 
+-- the only word is no pair
+pub word_not_pair : (words : List (List ℕ)) (word : List ℕ) → words ≡ word ∷ [] → ((x y : List ℕ) → pieces (λ b. eqb b 44) word ≢ x ∷ y ∷ []) → (pair : Pair) → ¬ SpellsFlow words pair
+word_not_pair words word e none pair s = none pair.x pair.y (subst (λ u. IsPair u pair) (only_word_unique s.0 word words s.1 e) s.2)
+
 -- ---- the first word tells which statement it is
 
 -- the word of a command
@@ -67,6 +71,7 @@ command_word (segment start pair) = codes "segment"
 command_word delaunay = codes "delaunay"
 command_word cells = codes "cells"
 command_word (saddles limit) = codes "saddles"
+command_word (flow pair) = codes "flow"
 
 -- the first word of a statement
 abbrev statement_word : Statement → List ℕ
@@ -84,6 +89,7 @@ SpellsArguments rest (segment start pair) = SpellsSegment rest start pair
 SpellsArguments rest delaunay = rest ≡ []
 SpellsArguments rest cells = rest ≡ []
 SpellsArguments rest (saddles limit) = rest ≡ limit ∷ []
+SpellsArguments rest (flow pair) = SpellsFlow rest pair
 
 -- the words after it spell the rest of a statement
 abbrev SpellsRest : List (List ℕ) → Statement → Type 0
@@ -101,6 +107,7 @@ command_parts words (segment start pair) s = (s.0 ∷ s.1 ∷ [], s.2, (s.0, s.1
 command_parts words delaunay s = ([], s, refl)
 command_parts words cells s = ([], s, refl)
 command_parts words (saddles limit) s = (limit ∷ [], s, refl)
+command_parts words (flow pair) s = (s.0 ∷ [], s.1, (s.0, refl, s.2))
 
 -- the first word of a statement, and what the others spell
 spelled_parts : (words : List (List ℕ)) (s : Statement) → SpellsStatement words s → (rest : List (List ℕ)) × (words ≡ statement_word s ∷ rest) × SpellsRest rest s
@@ -134,6 +141,7 @@ command_kind (segment start pair) = 6
 command_kind delaunay = 7
 command_kind cells = 8
 command_kind (saddles limit) = 9
+command_kind (flow pair) = 10
 
 -- a number for each kind of statement, and for each command
 abbrev kind : Statement → ℕ
@@ -155,7 +163,8 @@ kind_of_word name =
     else if bytes_eq name (codes "segment") then 6
     else if bytes_eq name (codes "delaunay") then 7
     else if bytes_eq name (codes "cells") then 8
-    else 9
+    else if bytes_eq name (codes "saddles") then 9
+    else 10
 
 kind_of_command_word : (stated : StatedCommand) → kind_of_word (command_word stated) ≡ command_kind stated
 kind_of_command_word check = refl
@@ -164,6 +173,7 @@ kind_of_command_word (segment start pair) = refl
 kind_of_command_word delaunay = refl
 kind_of_command_word cells = refl
 kind_of_command_word (saddles limit) = refl
+kind_of_command_word (flow pair) = refl
 
 kind_of_statement_word : (s : Statement) → kind_of_word (statement_word s) ≡ kind s
 kind_of_statement_word (field_line d) = refl
@@ -183,6 +193,7 @@ command_kind_least (segment start pair) = omega arith
 command_kind_least delaunay = omega arith
 command_kind_least cells = omega arith
 command_kind_least (saddles limit) = omega arith
+command_kind_least (flow pair) = omega arith
 
 -- ---- lines whose first word is known, and whose other words spell nothing
 
@@ -227,12 +238,28 @@ arguments_not_segment rest none (segment start pair) k shows = none start pair s
 arguments_not_segment rest none delaunay k shows = absurd (omega arith)
 arguments_not_segment rest none cells k shows = absurd (omega arith)
 arguments_not_segment rest none (saddles limit) k shows = absurd (omega arith)
+arguments_not_segment rest none (flow pair) k shows = absurd (omega arith)
 
 -- words after `segment` that aren't a corner and a pair
 pub not_segment_command : (word : List ℕ) (rest : List (List ℕ)) → word ≡ codes "segment" → ((start : Corner) (pair : Pair) → ¬ SpellsSegment rest start pair) → (stated : StatedCommand) → ¬ SpellsCommand (word ∷ rest) stated
 not_segment_command word rest named none stated shows =
     let b = spelled_arguments word rest stated shows in
     arguments_not_segment rest none stated (sym (kind_of_command_word stated) ∙ ap kind_of_word (b.0 ∙ named)) b.1
+
+arguments_not_flow : (rest : List (List ℕ)) → ((pair : Pair) → ¬ SpellsFlow rest pair) → (stated : StatedCommand) → command_kind stated ≡ 10 → SpellsArguments rest stated → ⊥
+arguments_not_flow rest none check k shows = absurd (omega arith)
+arguments_not_flow rest none stratum k shows = absurd (omega arith)
+arguments_not_flow rest none (segment start pair) k shows = absurd (omega arith)
+arguments_not_flow rest none delaunay k shows = absurd (omega arith)
+arguments_not_flow rest none cells k shows = absurd (omega arith)
+arguments_not_flow rest none (saddles limit) k shows = absurd (omega arith)
+arguments_not_flow rest none (flow pair) k shows = none pair shows
+
+-- words after `flow` that aren't a pair
+pub not_flow_command : (word : List ℕ) (rest : List (List ℕ)) → word ≡ codes "flow" → ((pair : Pair) → ¬ SpellsFlow rest pair) → (stated : StatedCommand) → ¬ SpellsCommand (word ∷ rest) stated
+not_flow_command word rest named none stated shows =
+    let b = spelled_arguments word rest stated shows in
+    arguments_not_flow rest none stated (sym (kind_of_command_word stated) ∙ ap kind_of_word (b.0 ∙ named)) b.1
 
 -- ---- words spell at most one statement
 
@@ -242,7 +269,7 @@ bare kind = if kind == 4 then check else if kind == 5 then stratum else if kind 
 
 -- the numbers of the commands with arguments
 abbrev HasArguments : ℕ → Type 0
-HasArguments kind = (kind ≡ 6) ⊎ (kind ≡ 9)
+HasArguments kind = (kind ≡ 6) ⊎ (9 ≤ kind)
 
 bare_of_kind : (stated : StatedCommand) → ¬ HasArguments (command_kind stated) → stated ≡ bare (command_kind stated)
 bare_of_kind check other = refl
@@ -250,15 +277,16 @@ bare_of_kind stratum other = refl
 bare_of_kind (segment start pair) other = absurd (other (inl refl))
 bare_of_kind delaunay other = refl
 bare_of_kind cells other = refl
-bare_of_kind (saddles limit) other = absurd (other (inr refl))
+bare_of_kind (saddles limit) other = absurd (other (inr (omega arith)))
+bare_of_kind (flow pair) other = absurd (other (inr (omega arith)))
 
 -- commands without arguments are equal where their numbers are
 bare_unique : (c e : StatedCommand) → command_kind c ≡ command_kind e → ¬ HasArguments (command_kind c) → c ≡ e
 bare_unique c e k other = bare_of_kind c other ∙ (ap bare k ∙ sym (bare_of_kind e (λ has. other (subst HasArguments (sym k) has))))
 
-no_arguments : (kind : ℕ) → kind ≢ 6 → kind ≢ 9 → ¬ HasArguments kind
-no_arguments kind six nine (inl e) = six e
-no_arguments kind six nine (inr e) = nine e
+no_arguments : (kind : ℕ) → kind ≢ 6 → kind < 9 → ¬ HasArguments kind
+no_arguments kind six few (inl e) = six e
+no_arguments kind six few (inr many) = absurd (omega arith)
 
 arguments_unique : (rest : List (List ℕ)) (c e : StatedCommand) → command_kind c ≡ command_kind e → SpellsArguments rest c → SpellsArguments rest e → c ≡ e
 arguments_unique rest check e k a b = bare_unique check e k (no_arguments 4 (omega arith) (omega arith))
@@ -270,12 +298,22 @@ arguments_unique rest (segment start pair) stratum k a b = absurd (omega arith)
 arguments_unique rest (segment start pair) delaunay k a b = absurd (omega arith)
 arguments_unique rest (segment start pair) cells k a b = absurd (omega arith)
 arguments_unique rest (segment start pair) (saddles limit) k a b = absurd (omega arith)
+arguments_unique rest (segment start pair) (flow other) k a b = absurd (omega arith)
 arguments_unique rest (saddles limit) check k a b = absurd (omega arith)
 arguments_unique rest (saddles limit) stratum k a b = absurd (omega arith)
 arguments_unique rest (saddles limit) (segment start pair) k a b = absurd (omega arith)
 arguments_unique rest (saddles limit) delaunay k a b = absurd (omega arith)
 arguments_unique rest (saddles limit) cells k a b = absurd (omega arith)
+arguments_unique rest (saddles limit) (flow pair) k a b = absurd (omega arith)
 arguments_unique rest (saddles limit) (saddles limit') k a b = ap saddles (only_word_unique limit limit' rest a b)
+arguments_unique rest (flow pair) check k a b = absurd (omega arith)
+arguments_unique rest (flow pair) stratum k a b = absurd (omega arith)
+arguments_unique rest (flow pair) (segment start other) k a b = absurd (omega arith)
+arguments_unique rest (flow pair) delaunay k a b = absurd (omega arith)
+arguments_unique rest (flow pair) cells k a b = absurd (omega arith)
+arguments_unique rest (flow pair) (saddles limit) k a b = absurd (omega arith)
+arguments_unique rest (flow pair) (flow pair') k a b =
+    ap flow (pair_unique a.0 pair pair' a.2 (subst (λ u. IsPair u pair') (only_word_unique b.0 a.0 rest b.1 a.1) b.2))
 arguments_unique rest (segment start pair) (segment start' pair') k a b =
     let words = two_words rest (a.1 ∷ []) a.0 b.0 b.1 a.2 b.2 in
     let second = heads_equal b.1 a.1 [] [] (sym words.1) in

@@ -3,7 +3,7 @@ use Rattle.std.specs.Prelude.{◌≡◌, ◌≢◌, ℕ, ◌+◌, ◌<◌, ◌�
 use Rattle.std.specs.List.{AllByRecursion}
 use Rattle.fs_lists.specs.First.{IsFirstWithout}
 use Rattle.fs_quadratic.specs.Radicand.{IsRadicand}
-use Rattle.fs_quadratic.specs.Ring.{zero}
+use Rattle.fs_quadratic.specs.Ring.{Quadratic, zero}
 use Rattle.fs_fraction.specs.Fraction.{Fraction}
 use Rattle.fs_fraction.specs.Number.{Reads}
 use Rattle.fs_fraction.specs.declared.number.NumberFault.{NumberFault}
@@ -13,9 +13,10 @@ use Rattle.fs_gluing.specs.declared.faults.Fault.{Fault}
 use Rattle.fs_gluing.specs.declared.faults.Fault.TheVariants as faults
 use Rattle.fs_gluing.specs.declared.shapes.Glue.{Glue}
 use Rattle.fs_gluing.specs.declared.shapes.Point.{Point}
+use Rattle.fs_plane.specs.Vector.{PlaneVector, vector_zero}
 use Rattle.fs_job.specs.declared.job.Command.{Command}
 use Rattle.fs_job.specs.declared.job.Command.TheVariants as commands
-use Rattle.fs_job.specs.Statement.{Pair, StatedCommand, check, stratum, segment, delaunay, cells, saddles, NumberText, Statement, field_line, polygon_line, glue_line, command_line, end_line, number_texts}
+use Rattle.fs_job.specs.Statement.{Pair, StatedCommand, check, stratum, segment, delaunay, cells, saddles, flow, NumberText, Statement, field_line, polygon_line, glue_line, command_line, end_line, number_texts}
 
 -- what the lines of a job so far said
 pub record Draft : Type 0 where
@@ -99,6 +100,14 @@ IsPoint pair point = Reads pair.x (Ok point.x) × Reads pair.y (Ok point.y)
 abbrev pub IsOrigin : Point → Type 0
 IsOrigin point = (point.x.num ≡ zero) × (point.y.num ≡ zero)
 
+-- the text spells this whole number
+abbrev pub SpellsWhole : List ℕ → Quadratic → Type 0
+SpellsWhole text n = (x : Fraction) × ReadsWhole text (Ok x) × (n ≡ x.num)
+
+-- the vector that a pair of whole numbers spells
+abbrev pub IsVector : Pair → PlaneVector → Type 0
+IsVector pair v = SpellsWhole pair.x v.x × SpellsWhole pair.y v.y
+
 -- the direction of a command is 0,0
 abbrev pub HasZeroDirection : StatedCommand → Type 0
 HasZeroDirection check = ⊥
@@ -107,6 +116,7 @@ HasZeroDirection (segment start pair) = (point : Point) × IsPoint pair point ×
 HasZeroDirection delaunay = ⊥
 HasZeroDirection cells = ⊥
 HasZeroDirection (saddles limit) = ⊥
+HasZeroDirection (flow pair) = (v : PlaneVector) × IsVector pair v × (v ≡ vector_zero)
 
 -- a statement on the line with the number n makes no sense, though its numbers are numbers, which is this fault: the d is that of no field, or a direction is 0,0
 abbrev pub IsSenseless : ℕ → Statement → Fault → Type 0
@@ -131,6 +141,7 @@ IsCommand n (segment start pair) command = (point : Point) × IsPoint pair point
 IsCommand n delaunay command = command ≡ commands.Delaunay
 IsCommand n cells command = command ≡ commands.Cells
 IsCommand n (saddles text) command = (limit : Fraction) × ReadsWhole text (Ok limit) × (command ≡ commands.Saddles limit.num)
+IsCommand n (flow pair) command = (v : PlaneVector) × IsVector pair v × (command ≡ commands.Flow v)
 
 -- the progress after the line with the number n: the draft with the statement added
 abbrev pub Adds : ℕ → Draft → Statement → Progress → Type 0

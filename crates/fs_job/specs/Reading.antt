@@ -1,4 +1,6 @@
 -- The draft that a job is, and the directions of its commands. The contract of `flat` doesn't rest on this file.
+use Rattle.std.specs.Prelude.{◌≢◌}
+use Rattle.fs_plane.specs.Vector.{vector_zero}
 use Rattle.fs_job.specs.declared.job.Form.{Form}
 use Rattle.fs_job.specs.declared.job.Form.TheVariants.{Polygons}
 use Rattle.fs_job.specs.declared.job.Job.{Job}
@@ -23,3 +25,4 @@ HasDirection (commands.Segment n start v) = ¬ IsOrigin v
 HasDirection commands.Delaunay = Unit {0}
 HasDirection commands.Cells = Unit {0}
 HasDirection (commands.Saddles limit) = Unit {0}
+HasDirection (commands.Flow v) = v ≢ vector_zero

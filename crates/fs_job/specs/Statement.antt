@@ -43,6 +43,7 @@ pub data StatedCommand : Type 0 where
   delaunay : StatedCommand
   cells : StatedCommand
   saddles : List ℕ → StatedCommand
+  flow : Pair → StatedCommand
 
 -- what a line states
 pub data Statement : Type 0 where
@@ -54,7 +55,7 @@ pub data Statement : Type 0 where
 
 -- the words by which a command is named
 abbrev pub command_words : List (List ℕ)
-command_words = codes "check" ∷ codes "stratum" ∷ codes "segment" ∷ codes "delaunay" ∷ codes "cells" ∷ codes "saddles" ∷ []
+command_words = codes "check" ∷ codes "stratum" ∷ codes "segment" ∷ codes "delaunay" ∷ codes "cells" ∷ codes "saddles" ∷ codes "flow" ∷ []
 
 -- the words of each command
 abbrev pub SpellsCommand : List (List ℕ) → StatedCommand → Type 0
@@ -65,6 +66,7 @@ SpellsCommand words (segment start pair) =
 SpellsCommand words delaunay = words ≡ codes "delaunay" ∷ []
 SpellsCommand words cells = words ≡ codes "cells" ∷ []
 SpellsCommand words (saddles limit) = words ≡ codes "saddles" ∷ limit ∷ []
+SpellsCommand words (flow pair) = (pair_text : List ℕ) × (words ≡ codes "flow" ∷ pair_text ∷ []) × IsPair pair_text pair
 
 -- the words spell this statement
 abbrev pub SpellsStatement : List (List ℕ) → Statement → Type 0
@@ -84,6 +86,10 @@ pub record NumberText : Type 0 where
 abbrev pub pair_texts : Pair → List NumberText
 pair_texts pair = record { whole = false; text = pair.x } ∷ record { whole = false; text = pair.y } ∷ []
 
+-- the texts of a pair of whole numbers
+abbrev pub whole_texts : Pair → List NumberText
+whole_texts pair = record { whole = true; text = pair.x } ∷ record { whole = true; text = pair.y } ∷ []
+
 -- those of a command, from left to right
 abbrev pub argument_texts : StatedCommand → List NumberText
 argument_texts check = []
@@ -92,6 +98,7 @@ argument_texts (segment start pair) = pair_texts pair
 argument_texts delaunay = []
 argument_texts cells = []
 argument_texts (saddles limit) = record { whole = true; text = limit } ∷ []
+argument_texts (flow pair) = whole_texts pair
 
 -- the texts of a statement's numbers, from left to right
 abbrev pub number_texts : Statement → List NumberText

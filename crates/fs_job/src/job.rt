@@ -4,7 +4,7 @@ ghost use Rattle.std.specs.Prelude.{◌≡◌};
 ghost use Rattle.fs_job.specs.declared.job.JobStop.TheVariants.{NoMemory};
 
 use fs_gluing::{Fault, Point, Sequence, Shape};
-use fs_plane::Corner;
+use fs_plane::{Corner, V2};
 use fs_quadratic::{Elem, Field};
 use std::alloc::AllocError;
 
@@ -24,6 +24,8 @@ pub enum Command {
     Cells,
     /// List the saddle connections of a squared length of at most this number, which is a whole one.
     Saddles { limit: Elem },
+    /// Decompose the flow in a direction, whose coordinates are whole numbers and not both 0.
+    Flow { v: V2 },
 }
 
 /// How a job describes its surface.

@@ -26,7 +26,7 @@ pub fn number_fault(number: u32, fault: NumberFault) -> Fault
 }
 
 // The texts before and after the comma of a pair.
-fn split_pair(word: &[u8]) -> (&[u8], &[u8])
+pub fn split_pair(word: &[u8]) -> (&[u8], &[u8])
     requires { IsPair word.now (pair_of word.now) }
     ensures x { result.0.now ≡ (pair_of word.now).x }
     ensures y { result.1.now ≡ (pair_of word.now).y }

@@ -4,7 +4,7 @@ ghost use Rattle.std.specs.Prelude.{◌≡◌, ◌≤◌, ◌↔◌, ℕ, List, 
 ghost use Rattle.fs_job.specs.Pieces.{words_of};
 ghost use Rattle.fs_job.specs.Statement.{Pair, StatedCommand, Statement, command_words, SpellsCommand, SpellsNumeral, SpellsCorner, IsPair, ArePairs, SpellsStatement};
 ghost use Rattle.fs_job.specs.Grammar.{header};
-ghost use Rattle.fs_job.specs.Line.{Finds, SpellsField, SpellsGlue, SpellsSegment, pair_of, pairs_of, command_of, statement_of, HasPair, HasPairs};
+ghost use Rattle.fs_job.specs.Line.{Finds, SpellsField, SpellsGlue, SpellsSegment, SpellsFlow, pair_of, pairs_of, command_of, statement_of, HasPair, HasPairs};
 
 use crate::pieces::{cut, cut_once};
 use crate::words::{next_word, only_word};
@@ -29,6 +29,7 @@ pub enum Stated<'a> {
     Delaunay,
     Cells,
     Saddles { limit: &'a [u8] },
+    Flow { pair: &'a [u8] },
 }
 
 // What a line states: its numbers are still texts.
@@ -127,6 +128,17 @@ fn segment_words(words: &[u8]) -> Option<(Corner, &[u8])>
     Some((corner(start)?, pair))
 }
 
+// The pair after the first word of a `flow` line.
+fn flow_word(words: &[u8]) -> Option<&[u8]>
+    ensures { MatchOption result
+        ((pair : Pair) → ¬ SpellsFlow (words_of words.now) pair)
+        (λ word. SpellsFlow (words_of words.now) (pair_of word.now) × IsPair word.now (pair_of word.now)) }
+{
+    let pair = only_word(words)?;
+    cut_once(pair, b',')?;
+    Some(pair)
+}
+
 // The command without arguments that a word names.
 fn bare_command<'a>(word: &[u8]) -> Option<Stated<'a>>
     ensures { MatchOption result
@@ -159,6 +171,10 @@ fn stated_command<'a>(word: &[u8], words: &'a [u8]) -> Option<Stated<'a>>
     if word == b"saddles".as_slice() {
         let limit = only_word(words)?;
         return Some(Stated::Saddles { limit });
+    }
+    if word == b"flow".as_slice() {
+        let pair = flow_word(words)?;
+        return Some(Stated::Flow { pair });
     }
     if next_word(words).is_some() {
         return None;

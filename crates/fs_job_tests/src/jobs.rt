@@ -22,7 +22,7 @@ const SQUARE: [&str; 7] = [
 
 // What replaces one of its lines, numbered from 1, and the name of the result. A fault that has
 // a line has this one.
-static CHANGES: [(usize, &str, &str); 148] = [
+static CHANGES: [(usize, &str, &str); 167] = [
     (1, "Flatsurf 1", "BadHeader"),
     (1, "flatsurf 1 1", "BadHeader"),
     (1, "flatsurf 3", "BadHeader"),
@@ -139,7 +139,6 @@ static CHANGES: [(usize, &str, &str); 148] = [
     (6, "check now", "BadLine"),
     (6, "chek", "BadLine"),
     (6, "close", "BadLine"),
-    (6, "flow 1,0", "BadLine"),
     (6, "Stratum", "BadLine"),
     (6, "stratum 1", "BadLine"),
     (6, "strata", "BadLine"),
@@ -170,6 +169,26 @@ static CHANGES: [(usize, &str, &str); 148] = [
     (6, "saddles -1", "read"),
     (6, "saddles 1r", "read"),
     (6, "\tsaddles 007-0r \r", "read"),
+    (6, "flow", "BadLine"),
+    (6, "flow 1", "BadLine"),
+    (6, "flow 1,0,0", "BadLine"),
+    (6, "flow 1, 0", "BadLine"),
+    (6, "flow 1,0 0,1", "BadLine"),
+    (6, "Flow 1,0", "BadLine"),
+    (6, "flows 1,0", "BadLine"),
+    (6, "flow 0,0,", "BadLine"),
+    (6, "flow ,", "BadNumber"),
+    (6, "flow 1,", "BadNumber"),
+    (6, "flow 1/2,1", "BadNumber"),
+    (6, "flow 1,4/2", "BadNumber"),
+    (6, "flow 0,0/1", "BadNumber"),
+    (6, "flow 4/2,1234567890123456789", "BadNumber"),
+    (6, "flow 1234567890123456789,4/2", "Wide"),
+    (6, "flow 1/1000000000000000000,1", "Wide"),
+    (6, "flow 1,1/1000000000000000000", "Wide"),
+    (6, "flow 1,0", "read"),
+    (6, "flow 0,-1r", "read"),
+    (6, "\tflow 007+1r,-0 \r", "read"),
     (6, "won top 1", "BadLine"),
     (6, "check\x00", "NotAscii"),
     (6, " check", "read"),

@@ -79,13 +79,15 @@ static WIDE: [&str; 6] = [
     "segment 0.0 1234567890123456789,1/0",
 ];
 
-static ZERO_DIRECTIONS: [&str; 6] = [
+static ZERO_DIRECTIONS: [&str; 8] = [
     "segment 0.0 0,0",
     "segment 9999.9999 0,0",
     "segment 0.0 0/3,0r",
     "segment 0.0 -0,00-0r",
     "segment 0.0 0/999999999999999999,-0/2r",
     "segment 0.0 000000000000000000+0r,0/1+0/1r",
+    "flow 0,0",
+    "flow -0+0r,000000000000000000",
 ];
 
 // Whole jobs that are read, and others with their first faults.
@@ -230,12 +232,15 @@ fn after_256(alloc: Global, line: &str) -> Result<Vec<u8>, AllocError> {
 }
 
 // Lines after 256 commands, and the fault.
-static AFTER_256: [(&str, Option<Fault>); 6] = [
+static AFTER_256: [(&str, Option<Fault>); 9] = [
     ("end\n", None),
     ("segment 0.0 2,1\n", Some(Fault::TooMany { line: 260 })),
     ("segment 0.0 x,1\n", Some(Fault::TooMany { line: 260 })),
     ("segment 0.0 0,0\n", Some(Fault::TooMany { line: 260 })),
     ("segment 0.0 2\n", Some(Fault::BadLine { line: 260 })),
+    ("flow a,b\n", Some(Fault::TooMany { line: 260 })),
+    ("flow 0,0\n", Some(Fault::TooMany { line: 260 })),
+    ("flow x\n", Some(Fault::BadLine { line: 260 })),
     ("\nsegment 0.0 2,1\n", Some(Fault::TooMany { line: 261 })),
 ];
 
@@ -278,13 +283,24 @@ fn expect_limit(rt: &impl Abort, command: &Command, p: i128, q: i128) {
     }
 }
 
+// That a command asks for the flow in the direction (-1 + 2√d, 3).
+fn expect_direction(rt: &impl Abort, command: &Command) {
+    match command {
+        Command::Flow { v } => {
+            assert!(rt; v.x.p() == -1 && v.x.q() == 2);
+            assert!(rt; v.y.p() == 3 && v.y.q() == 0);
+        }
+        _ => panic!(rt; "no flow"),
+    }
+}
+
 #[test]
 fn what_a_segment_line_says(rt: HostRuntime) -> Result<(), Fail> {
     let text =
-        b"flatsurf 1\nfield 2\n\npolygon\ncheck\nsegment 0007.32 2/4-3r,0\n\n segment 1.0 0,-5\nstratum\ndelaunay\ncells\nsaddles 12-3r\nend";
+        b"flatsurf 1\nfield 2\n\npolygon\ncheck\nsegment 0007.32 2/4-3r,0\n\n segment 1.0 0,-5\nstratum\ndelaunay\ncells\nsaddles 12-3r\nflow -1+2r,03\nend";
     let job = read_job(rt.alloc(), text).ok().ok_or("no job")?;
     let commands = job.commands.as_slice();
-    assert!(rt; commands.len() == 7);
+    assert!(rt; commands.len() == 8);
     assert!(rt; matches!(commands[0], Command::Check));
     expect_segment(&rt, &commands[1], 6, Corner::new(7, 32), "1/2-3r", "0");
     expect_segment(&rt, &commands[2], 8, Corner::new(1, 0), "0", "-5");
@@ -292,5 +308,6 @@ fn what_a_segment_line_says(rt: HostRuntime) -> Result<(), Fail> {
     assert!(rt; matches!(commands[4], Command::Delaunay));
     assert!(rt; matches!(commands[5], Command::Cells));
     expect_limit(&rt, &commands[6], 12, -3);
+    expect_direction(&rt, &commands[7]);
     Ok(())
 }

@@ -9,3 +9,5 @@ pub mod Ranges
 pub mod Sums
 pub mod Digits
 pub mod Results
+pub mod SortedLists
+pub mod SortedExists

@@ -15,3 +15,4 @@ pub mod WidthTests
 pub mod StepChains
 pub mod Tiny
 pub mod Squares
+pub mod Totals

@@ -7,10 +7,10 @@ use Rattle.fs_lists.specs.Members.{IsIn, IsDistinct}
 use Rattle.fs_lists.proofs.All.{All-prefix, All-suffix}
 use Rattle.fs_lists.proofs.Members.{All-member, in_append_left, in_append_right, in_append_cases}
 use Rattle.fs_ring.specs.OrderedRing.{IsOrderedRing}
-use Rattle.fs_ring.proofs.RingLaws as ring_laws
 use Rattle.fs_ring.proofs.Solver.{◌⊕◌, ◌⊖◌, ◌≐◌, ◌from◌, derived, identity, numeral}
-use Rattle.fs_quadratic.specs.Ring.{Quadratic, quadratic, IsPositive, add, sub, total}
+use Rattle.fs_quadratic.specs.Ring.{quadratic, IsPositive, add, sub, total}
 use Rattle.fs_quadratic.proofs.Laws.{quadratic_ring}
+use Rattle.fs_quadratic.proofs.Totals.{total-append}
 use Rattle.fs_gluing.specs.Exchanges.{Letter, Component, IsLawful, names_of}
 use Rattle.fs_iet.proofs.Rearrangements.{in_permutation, permutation_of_members, total_of_members, distinct_permutation}
 use Rattle.fs_iet.proofs.LetterRows.{letter_long, name_in_top, name_in_bottom, bottom_distinct}
@@ -19,11 +19,6 @@ use Rattle.fs_rauzy.specs.Events.{with_letter, won_over, lost_below, lost_above,
 use Rattle.fs_rauzy.proofs.RowEnds.{All_of_members, distinct_left, distinct_right, distinct_across, moved_permutation, moved_names, put_permutation}
 use Rattle.fs_rauzy.proofs.LetterChanges.{lengths_of, with_letter-names, with_letter-length, with_letter_other, with_letter_all, with_letter_total, AreRelabelled, relabelled-names, relabelled-lengths, ends_relabelled}
 use Rattle.fs_rauzy.proofs.LastLetters.{letters_distinct}
-
--- the sum of two lists
-pub total-append : (xs ys : List Quadratic) → total (xs ++ ys) ≡ add (total xs) (total ys)
-total-append [] ys = sym (ring_laws.zero_add (quadratic_ring 0) (total ys))
-total-append (x ∷ xs) ys = ap (add x) (total-append xs ys) ∙ sym ((quadratic_ring 0).add_assoc x (total xs) (total ys))
 
 -- the sum of the lengths of two rows
 pub lengths-append : (xs ys : List Letter) → total (lengths_of (xs ++ ys)) ≡ add (total (lengths_of xs)) (total (lengths_of ys))

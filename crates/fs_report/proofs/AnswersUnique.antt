@@ -11,7 +11,8 @@ use Rattle.fs_stratum.proofs.VertexListUnique.{vertex_list_unique, genus_unique}
 use Rattle.fs_stratum.proofs.VertexListExists.{vertex_list_exists}
 use Rattle.fs_stratum.proofs.GenusExists.{genus_exists}
 use Rattle.fs_job.specs.declared.job.Command.{Command}
-use Rattle.fs_job.specs.declared.job.Command.TheVariants.{Check, Stratum, Segment, Delaunay, Cells, Saddles}
+use Rattle.fs_job.specs.declared.job.Command.TheVariants.{Check, Stratum, Segment, Delaunay, Cells, Saddles, Flow}
+use Rattle.fs_job.specs.Reading.{HasDirection}
 use Rattle.fs_report.specs.Area.{GivesArea}
 use Rattle.fs_report.specs.Orders.{AreOrders}
 use Rattle.fs_report.specs.Answers.{Answers, HasCorner}
@@ -20,6 +21,7 @@ use Rattle.fs_report.proofs.UnscaledArea.{area_unique, area_exists}
 use Rattle.fs_report.proofs.SegmentUnique.{segment_unique, segment_exists}
 use Rattle.fs_report.proofs.DelaunayUnique.{delaunay_unique, delaunay_exists, cells_unique, cells_exist}
 use Rattle.fs_report.proofs.SaddlesUnique.{saddles_unique, saddles_exist}
+use Rattle.fs_report.proofs.FlowUnique.{flow_answer_unique, flow_answer_exists}
 use Rattle.fs_report.proofs.Descending.{descending_unique, descending_exists}
 
 -- ---- the stratum
@@ -65,12 +67,14 @@ answer_unique s budget (Segment line start v) m n p q surface strict a b = segme
 answer_unique s budget Delaunay m n p q surface strict a b = delaunay_unique s budget surface strict m n p q a b
 answer_unique s budget Cells m n p q surface strict a b = cells_unique s budget surface strict m n p q a b
 answer_unique s budget (Saddles limit) m n p q surface strict a b = saddles_unique s budget limit surface strict m n p q a b
+answer_unique s budget (Flow v) m n p q surface strict a b = flow_answer_unique s budget v surface a.0 m n p q a.1 b.1
 
--- a command has an answer, where the surface has the corner that it names
-pub answer_exists : (s : GluedPolygons) (budget : ℕ) (command : Command) → IsSurface s → s.straight ≡ false → HasCorner s command → ((text : List ℕ) (partial : Bool) → ¬ Answers s budget command text partial) → ⊥
-answer_exists s budget Check surface strict there none = none _ _ (refl, refl)
-answer_exists s budget Stratum surface strict there none = stratum_exists s surface.surface none
-answer_exists s budget (Segment line start v) surface strict there none = (let answer = segment_exists s budget start v surface there in none answer.0 answer.1 answer.2)
-answer_exists s budget Delaunay surface strict there none = delaunay_exists s budget surface strict none
-answer_exists s budget Cells surface strict there none = cells_exist s budget surface strict none
-answer_exists s budget (Saddles limit) surface strict there none = saddles_exist s budget limit surface strict none
+-- a command has an answer, where the surface has the corner that it names, and its direction isn't 0,0
+pub answer_exists : (s : GluedPolygons) (budget : ℕ) (command : Command) → IsSurface s → s.straight ≡ false → HasCorner s command → HasDirection command → ((text : List ℕ) (partial : Bool) → ¬ Answers s budget command text partial) → ⊥
+answer_exists s budget Check surface strict there some none = none _ _ (refl, refl)
+answer_exists s budget Stratum surface strict there some none = stratum_exists s surface.surface none
+answer_exists s budget (Segment line start v) surface strict there some none = (let answer = segment_exists s budget start v surface there in none answer.0 answer.1 answer.2)
+answer_exists s budget Delaunay surface strict there some none = delaunay_exists s budget surface strict none
+answer_exists s budget Cells surface strict there some none = cells_exist s budget surface strict none
+answer_exists s budget (Saddles limit) surface strict there some none = saddles_exist s budget limit surface strict none
+answer_exists s budget (Flow v) surface strict there some none = flow_answer_exists s budget v surface some (λ text partial answers. none text partial (some, answers))

@@ -5,6 +5,8 @@ pub mod ListTexts
 pub mod DelaunayTexts
 pub mod DelaunayUnique
 pub mod SaddlesUnique
+pub mod FlowTexts
+pub mod FlowUnique
 pub mod UnscaledArea
 pub mod StratumText
 pub mod AnswersUnique

@@ -3,4 +3,5 @@ pub mod Area
 pub mod Text
 pub mod DelaunayText
 pub mod SaddlesText
+pub mod FlowText
 pub mod Answers

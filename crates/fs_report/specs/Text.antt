@@ -8,7 +8,7 @@ use Rattle.fs_plane.specs.declared.sites.Site.{Site}
 use Rattle.fs_plane.specs.Vector.{PlaneVector}
 use Rattle.fs_paths.specs.Ends.{PathEnd, outside_sector, segment, corner_before_end, ends_inside, longer}
 use Rattle.fs_gluing.specs.declared.faults.Fault.{Fault}
-use Rattle.fs_gluing.specs.declared.faults.Fault.TheVariants.{NotAscii, BadHeader, BadLine, BadNumber, BadField, TooMany, NoEnd, ZeroDirection, Wide, FewSides, NotClosed, NotConvex, TurnsTwice, NoSuchSide, GluedTwice, NotOpposite, Unglued, Apart, TooLong}
+use Rattle.fs_gluing.specs.declared.faults.Fault.TheVariants.{NotAscii, BadHeader, BadLine, BadNumber, BadField, TooMany, NoEnd, ZeroDirection, Wide, FewSides, NotClosed, NotConvex, TurnsTwice, NoSuchSide, GluedTwice, NotOpposite, Unglued, Apart, GroupTooLarge, TooLong}
 use Rattle.fs_gluing.specs.declared.shapes.Point.{Point}
 use Rattle.fs_gluing.specs.Surface.{GluedPolygons}
 use Rattle.fs_stratum.specs.declared.cones.Cone.{Cone}
@@ -47,6 +47,7 @@ fault_words (GluedTwice line) = codes "refused 15 GluedTwice line " ++ decimal l
 fault_words (NotOpposite line) = codes "refused 16 NotOpposite line " ++ decimal line
 fault_words (Unglued side) = codes "refused 17 Unglued " ++ corner_text side
 fault_words (Apart polygon) = codes "refused 18 Apart " ++ decimal polygon
+fault_words GroupTooLarge = codes "refused 19 GroupTooLarge"
 fault_words TooLong = codes "refused 20 TooLong"
 
 -- the line of a fault

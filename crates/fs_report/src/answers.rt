@@ -7,6 +7,7 @@ ghost use Rattle.fs_report.specs.Text.{check_line};
 
 use crate::cells::answer_cells;
 use crate::delaunay::answer_delaunay;
+use crate::flow::answer_flow;
 use crate::saddles::answer_saddles;
 use crate::segment::answer_segment;
 use crate::stratum::answer_stratum;
@@ -54,7 +55,8 @@ fn check_line(alloc: Global, surface: &Surface) -> Result<String, NoMemory>
 
 /// The answer to a command about a surface without straight corners, within a budget of 1 to 1,000,000 steps: `segment`
 /// crosses at most so many sides, `delaunay`, `cells` and `saddles` flip at most so many edges, and then `saddles` visits at
-/// most so many live words. The corner of a `segment` exists, and its vector isn't 0,0.
+/// most so many live words; `flow` takes at most so many steps of the induction. The corner of a `segment` exists, and its
+/// vector isn't 0,0; nor is the direction of a `flow`.
 pub fn find_answer(
     alloc: Global,
     surface: &Surface,
@@ -78,5 +80,6 @@ pub fn find_answer(
         Command::Delaunay => answer_delaunay(alloc, surface, budget),
         Command::Cells => answer_cells(alloc, surface, budget),
         Command::Saddles { limit } => answer_saddles(alloc, surface, *limit, budget),
+        Command::Flow { v } => answer_flow(alloc, surface, *v, budget),
     }
 }

@@ -5,6 +5,7 @@ mod answers;
 mod areas;
 mod cells;
 mod delaunay;
+mod flow;
 mod lines;
 mod saddles;
 mod segment;

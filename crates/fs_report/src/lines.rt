@@ -47,6 +47,7 @@ fn fault_words(alloc: Global, fault: Fault) -> Result<String, AllocError>
             format!(in alloc; "refused 17 Unglued {polygon}.{side}")
         }
         Fault::Apart { polygon } => format!(in alloc; "refused 18 Apart {polygon}"),
+        Fault::GroupTooLarge => format!(in alloc; "refused 19 GroupTooLarge"),
         Fault::TooLong => format!(in alloc; "refused 20 TooLong"),
     }
 }

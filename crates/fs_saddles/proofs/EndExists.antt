@@ -24,7 +24,7 @@ use Rattle.fs_saddles.specs.Keeping.{IsRayOf, AreKeepable, AreKeptAs, RayStops, 
 use Rattle.fs_saddles.proofs.FoundRays.{found_keepable}
 use Rattle.fs_saddles.proofs.SaddleLists.{first_stopped, all_listed}
 use Rattle.fs_saddles.proofs.SearchExists.{search_end_exists}
-use Rattle.fs_saddles.proofs.SortedExists.{sorted_exists}
+use Rattle.fs_lists.proofs.SortedExists.{sorted_exists}
 
 -- a vector is kept, or a part is too large
 keep_cases : (v : PlaneVector) → ((keep v ≡ Ok v) × IsKeepable v) ⊎ ((stop : Place) × (keep v ≡ Err stop))

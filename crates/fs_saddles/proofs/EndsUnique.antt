@@ -24,8 +24,8 @@ use Rattle.fs_fan.proofs.EndsUnique as searches
 use Rattle.fs_saddles.specs.declared.saddles.Saddles.{Saddles}
 use Rattle.fs_saddles.specs.Saddles.{scaled_bound, AreEntriesOf, IsSaddleList, IsKeptAs, AreKept, SaddleList, EndsSaddles, bound_overflows, search_stops, keep_overflows, home_overflows, listed, ReturnsSaddles}
 use Rattle.fs_saddles.specs.Keeping.{RayStops, keep_stops, home_stops, FirstStop}
-use Rattle.fs_saddles.proofs.EqualListed.{listed_equal, listed_exact}
-use Rattle.fs_saddles.proofs.SortedLists.{sorted_unique}
+use Rattle.fs_plane.proofs.EqualListed.{listed_equal, listed_exact}
+use Rattle.fs_lists.proofs.SortedLists.{sorted_unique}
 
 -- the first corner whose sector holds a vector is one
 first_corner_unique : (s : GluedPolygons) (c : Corner) (v : PlaneVector) (one other : Corner) → IsFirstCorner s c v one → IsFirstCorner s c v other → one ≡ other

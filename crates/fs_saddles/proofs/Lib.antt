@@ -1,9 +1,6 @@
-pub mod SortedLists
-pub mod EqualListed
 pub mod FoundRays
 pub mod KeptRays
 pub mod EndsUnique
 pub mod SaddleLists
 pub mod SearchExists
-pub mod SortedExists
 pub mod EndExists
