@@ -34,9 +34,9 @@ picked_exists P decided (x ∷ xs) =
     let rest = picked_exists P decided xs in
     elim (decided x) [ inl p ↦ (x ∷ rest.0, picks x xs rest.0 p rest.1) | inr p ↦ (rest.0, skips x xs rest.0 p rest.1) ]
 
-module _ {A : Type 0} {R : Operations A} {IsPositive : A → Type 0} (L : IsOrderedRing R IsPositive) where
+module _ {A : Type 0} {R : Operations A} {P : A → Type 0} (L : IsOrderedRing R P) where
   -- a vector is along a direction or isn't
-  along_or_not : (v a : Vector A) → IsAlong R IsPositive v a ⊎ ¬ IsAlong R IsPositive v a
+  along_or_not : (v a : Vector A) → IsAlong R P v a ⊎ ¬ IsAlong R P v a
   along_or_not v a = elim (L.trichotomy (cross R v a)) [
     | positive h ↦ inr (λ k. signs.positive-ne-zero L h k.parallel)
     | null e ↦ elim (L.trichotomy (dot R v a)) [
@@ -79,7 +79,7 @@ module _ {d : ℕ} (radicand : IsRadicand d) where
     pub stop : Place
     pub overflows : keep connection.v ≡ Err stop
 
-  -- after a connection that is kept or left out
+  -- it is the first too after a connection that is kept or left out
   unkept_after : (c : Found) (cs : List Found) → (c.v ≢ vector_zero → keep c.v ≡ Ok c.v) → HasUnkept cs → HasUnkept (c ∷ cs)
   unkept_after c cs keeps u = record {
     before = c ∷ u.before;
@@ -92,13 +92,15 @@ module _ {d : ℕ} (radicand : IsRadicand d) where
     overflows = u.overflows;
   }
 
+  -- a connection whose vector is 0 has no entry
   zero_before : (c : Found) (cs : List Found) → c.v ≡ vector_zero → HasEntries cs → HasEntries (c ∷ cs)
-  zero_before c cs null h = record { entries = h.entries; keepable = ((λ n. absurd (n null)), h.keepable); are = left_out c cs h.entries null h.are }
+  zero_before c cs is h = record { entries = h.entries; keepable = ((λ n. absurd (n is)), h.keepable); are = left_out c cs h.entries is h.are }
 
+  -- one of both
   entries_cases : (connections : List Found) → HasEntries connections ⊎ HasUnkept connections
   entries_cases [] = inl (record { entries = []; keepable = tt; are = no_entry })
   entries_cases (c ∷ cs) = elim (zero_or_not (field_order radicand) c.v) [
-    | inl null ↦ elim (entries_cases cs) [ inl h ↦ inl (zero_before c cs null h) | inr u ↦ inr (unkept_after c cs (λ n. absurd (n null)) u) ]
+    | inl is ↦ elim (entries_cases cs) [ inl h ↦ inl (zero_before c cs is h) | inr u ↦ inr (unkept_after c cs (λ n. absurd (n is)) u) ]
     | inr some ↦ elim (keep_cases c.v) [
       | inl k ↦ elim (entries_cases cs) [
         | inl h ↦

@@ -24,7 +24,7 @@ use Rattle.fs_components.proofs.MeasuresUnique.{MeasureAll, all_measured, one_st
 
 -- a run from one component has an end
 abbrev RunsEnd : Type 0
-RunsEnd = {d : ℕ} → IsRadicand d → (c : Component) → IsState (record { d = d; components = c ∷ [] }) → (n : ℕ) → ((end : Result Run Stop) → ¬ EndsRun d n (c ∷ []) end) → ⊥
+RunsEnd = (d : ℕ) → IsRadicand d → (c : Component) → IsState (record { d = d; components = c ∷ [] }) → (n : ℕ) → ((end : Result Run Stop) → ¬ EndsRun d n (c ∷ []) end) → ⊥
 
 module _ (run_exists : RunsEnd) (s : GluedPolygons) (surface : IsSurface s) (v : PlaneVector) (some : v ≢ vector_zero) (n : ℕ) (no_end : (end : Result Flow Stop) → ¬ EndsFlow s v n end) where
   module _ (c : Component) (given : GivesExchange s v (Ok c)) where
@@ -48,7 +48,7 @@ module _ (run_exists : RunsEnd) (s : GluedPolygons) (surface : IsSurface s) (v :
 
   -- not after the exchange
   after_exchange : (r : Result Component Site) → GivesExchange s v r → ⊥
-  after_exchange (Ok c) given = run_exists surface.radicand c (given_state s surface v some c given) n (λ r ends. after_run c given r ends)
+  after_exchange (Ok c) given = run_exists s.d surface.radicand c (given_state s surface v some c given) n (λ r ends. after_run c given r ends)
   after_exchange (Err site) given = no_end _ (exchange_stops site given)
 
   by_exchange : ⊥

@@ -1,5 +1,5 @@
 -- The parts of a run are measured, or there is a first one whose measures overflow.
-use Rattle.std.proofs.Common.{◌≡◌, ◌⊎◌, Result, Ok, Err, List, [], ◌∷◌, length, refl, ap, inl, inr}
+use Rattle.std.proofs.Common.{◌≡◌, Result, Ok, Err, List, [], ◌∷◌, length, refl, ap}
 use Rattle.std.specs.List.{AllByRecursion}
 use Rattle.std.specs.Prelude.{unsigned_abs}
 use Rattle.fs_quadratic.specs.declared.steps.Place.{Place}
@@ -27,8 +27,8 @@ module _ (s : GluedPolygons) (v : PlaneVector) where
       by (Looped from to) is = (checked_looped s.d (unsigned_abs s.den) v p.letters, of_looped from to is)
 
   -- one part is measured before the others
-  measured_before : (p : Part) (ps : List Part) (m : PartMeasures) → GivesMeasures s v p (Ok m) → (r : Result (List Measured) Site) × MeasureAll s v ps r → (r : Result (List Measured) Site) × MeasureAll s v (p ∷ ps) r
-  measured_before p ps m g rest = by rest.0 rest.1
+  after_measured : (p : Part) (ps : List Part) (m : PartMeasures) → GivesMeasures s v p (Ok m) → (r : Result (List Measured) Site) × MeasureAll s v ps r → (r : Result (List Measured) Site) × MeasureAll s v (p ∷ ps) r
+  after_measured p ps m g rest = by rest.0 rest.1
     where
       by : (r : Result (List Measured) Site) → MeasureAll s v ps r → (r : Result (List Measured) Site) × MeasureAll s v (p ∷ ps) r
       by _ (all_measured list are) = (Ok (measured p m ∷ list), all_measured (measured p m ∷ list) ((m, g, refl), are))
@@ -55,7 +55,7 @@ module _ (s : GluedPolygons) (v : PlaneVector) where
   measure_all_exists (p ∷ ps) short = let first = part_measures p short.0 in by first.0 first.1 (measure_all_exists ps short.1)
     where
       by : (r : Result PartMeasures Place) → GivesMeasures s v p r → (r : Result (List Measured) Site) × MeasureAll s v ps r → (r : Result (List Measured) Site) × MeasureAll s v (p ∷ ps) r
-      by (Ok m) g rest = measured_before p ps m g rest
+      by (Ok m) g rest = after_measured p ps m g rest
       by (Err stop) g rest =
           let site : Site = Value 0 stop.0 in
           (Err site, one_stops site (record { before = []; part = p; after = ps; is = refl; done = []; measured_before = tt; stop = stop; overflows = g; at = refl }))
