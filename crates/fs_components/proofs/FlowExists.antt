@@ -4,7 +4,6 @@ use Rattle.fs_quadratic.specs.Radicand.{IsRadicand}
 use Rattle.fs_plane.specs.declared.listing.Listed.{Listed}
 use Rattle.fs_plane.specs.declared.sites.Site.{Site}
 use Rattle.fs_plane.specs.declared.sites.Stop.{Stop}
-use Rattle.fs_plane.specs.declared.sites.Stop.TheVariants.{Overflow}
 use Rattle.fs_plane.specs.Vector.{PlaneVector, vector_zero}
 use Rattle.fs_gluing.specs.Exchanges.{Component}
 use Rattle.fs_gluing.specs.Surface.{GluedPolygons, IsSurface}

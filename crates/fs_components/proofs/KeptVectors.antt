@@ -1,5 +1,5 @@
 -- A vector is kept in a list, or a part of it is too large.
-use Rattle.std.proofs.Common.{◌≡◌, ◌⊎◌, Bool, true, false, cond, Result, Ok, Err, refl, inl, inr}
+use Rattle.std.proofs.Common.{◌≡◌, ◌⊎◌, Bool, true, false, cond, Ok, Err, refl, inl, inr}
 use Rattle.std.proofs.lemmas.Bool.{leb-true}
 use Rattle.fs_quadratic.specs.Checked.{place}
 use Rattle.fs_quadratic.specs.declared.steps.Place.{Place}

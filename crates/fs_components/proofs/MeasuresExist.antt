@@ -11,7 +11,7 @@ use Rattle.fs_rauzy.specs.declared.parts.Kind.{Kind}
 use Rattle.fs_rauzy.specs.declared.parts.Kind.TheVariants.{Cylinder, Looped}
 use Rattle.fs_rauzy.specs.declared.parts.Part.{Part}
 use Rattle.fs_components.specs.declared.flow.Measured.{Measured}
-use Rattle.fs_components.specs.Flows.{measured, GivesMeasures, of_cylinder, of_looped, AreMeasured, StopsMeasuring}
+use Rattle.fs_components.specs.Flows.{measured, GivesMeasures, of_cylinder, of_looped}
 use Rattle.fs_components.specs.Gathering.{IsShort}
 use Rattle.fs_components.specs.Measures.{PartMeasures, checked_cylinder, checked_looped}
 use Rattle.fs_components.proofs.MeasuresUnique.{MeasureAll, all_measured, one_stops}
