@@ -32,6 +32,7 @@ mod MergedInPlace
 mod MergedSteps
 pub mod NameRows
 pub mod NamedLetters
+pub mod NextExists
 pub mod NumberedEvents
 pub mod OpenedRows
 pub mod OutcomeUnique
@@ -47,6 +48,7 @@ mod RowsAround
 pub mod RunBounds
 pub mod RunCalls
 pub mod RunChanges
+pub mod RunExists
 mod RunLoops
 pub mod RunParts
 pub mod RunSteps
