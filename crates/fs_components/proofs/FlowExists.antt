@@ -1,6 +1,5 @@
 -- The decomposition of a flow within a budget has an end.
 use Rattle.std.proofs.Common.{◌≢◌, ℕ, Result, Ok, Err, List, [], ◌∷◌}
-use Rattle.fs_quadratic.specs.Radicand.{IsRadicand}
 use Rattle.fs_plane.specs.declared.listing.Listed.{Listed}
 use Rattle.fs_plane.specs.declared.sites.Site.{Site}
 use Rattle.fs_plane.specs.declared.sites.Stop.{Stop}
@@ -11,7 +10,7 @@ use Rattle.fs_iet.specs.ExchangeSites.{GivesExchange}
 use Rattle.fs_iet.proofs.ExchangeExists.{exchange_end_exists}
 use Rattle.fs_rauzy.specs.declared.parts.Run.{Run}
 use Rattle.fs_rauzy.specs.Runs.{EndsRun}
-use Rattle.fs_rauzy.specs.States.{IsState}
+use Rattle.fs_rauzy.proofs.RunExists.{run_exists}
 use Rattle.fs_components.specs.declared.flow.Flow.{Flow}
 use Rattle.fs_components.specs.declared.flow.Measured.{Measured}
 use Rattle.fs_components.specs.Connections.{EndsConnections}
@@ -21,11 +20,7 @@ use Rattle.fs_components.proofs.ExchangeStates.{given_state, given_sizes}
 use Rattle.fs_components.proofs.MeasuresExist.{measure_all_exists}
 use Rattle.fs_components.proofs.MeasuresUnique.{MeasureAll, all_measured, one_stops}
 
--- a run from one component has an end
-abbrev RunsEnd : Type 0
-RunsEnd = (d : ℕ) → IsRadicand d → (c : Component) → IsState (record { d = d; components = c ∷ [] }) → (n : ℕ) → ((end : Result Run Stop) → ¬ EndsRun d n (c ∷ []) end) → ⊥
-
-module _ (run_exists : RunsEnd) (s : GluedPolygons) (surface : IsSurface s) (v : PlaneVector) (some : v ≢ vector_zero) (n : ℕ) (no_end : (end : Result Flow Stop) → ¬ EndsFlow s v n end) where
+module _ (s : GluedPolygons) (surface : IsSurface s) (v : PlaneVector) (some : v ≢ vector_zero) (n : ℕ) (no_end : (end : Result Flow Stop) → ¬ EndsFlow s v n end) where
   module _ (c : Component) (given : GivesExchange s v (Ok c)) where
     module _ (run : Run) (ends : EndsRun s.d n (c ∷ []) (Ok run)) where
       -- not after the measures
@@ -47,12 +42,12 @@ module _ (run_exists : RunsEnd) (s : GluedPolygons) (surface : IsSurface s) (v :
 
   -- not after the exchange
   after_exchange : (r : Result Component Site) → GivesExchange s v r → ⊥
-  after_exchange (Ok c) given = run_exists s.d surface.radicand c (given_state s surface v some c given) n (λ r ends. after_run c given r ends)
+  after_exchange (Ok c) given = run_exists surface.radicand c (given_state s surface v some c given) n (λ r ends. after_run c given r ends)
   after_exchange (Err site) given = no_end _ (exchange_stops site given)
 
   by_exchange : ⊥
   by_exchange = let exchange = exchange_end_exists s surface v some in after_exchange exchange.0 exchange.1
 
 -- the decomposition of a flow has an end
-pub flow_exists : RunsEnd → (s : GluedPolygons) → IsSurface s → (v : PlaneVector) → v ≢ vector_zero → (n : ℕ) → ((end : Result Flow Stop) → ¬ EndsFlow s v n end) → ⊥
+pub flow_exists : (s : GluedPolygons) → IsSurface s → (v : PlaneVector) → v ≢ vector_zero → (n : ℕ) → ((end : Result Flow Stop) → ¬ EndsFlow s v n end) → ⊥
 flow_exists = by_exchange

@@ -36,17 +36,17 @@ module _ (s : GluedPolygons) (v : PlaneVector) where
           let site : Site = Value (length (p ∷ stops.before)) stops.stop.0 in (
             Err site,
             one_stops site
-            (record {
-              before = p ∷ stops.before;
-              part = stops.part;
-              after = stops.after;
-              is = ap (λ xs. p ∷ xs) stops.is;
-              done = measured p m ∷ stops.done;
-              measured_before = ((m, g, refl), stops.measured_before);
-              stop = stops.stop;
-              overflows = stops.overflows;
-              at = refl;
-            }),
+                (record {
+                  before = p ∷ stops.before;
+                  part = stops.part;
+                  after = stops.after;
+                  is = ap (λ xs. p ∷ xs) stops.is;
+                  done = measured p m ∷ stops.done;
+                  measured_before = ((m, g, refl), stops.measured_before);
+                  stop = stops.stop;
+                  overflows = stops.overflows;
+                  at = refl;
+                }),
           )
 
   -- all parts are measured, or one overflows
