@@ -22,6 +22,7 @@ use Rattle.fs_rauzy.specs.declared.parts.Part.{Part}
 use Rattle.fs_rauzy.specs.declared.parts.Run.{Run}
 use Rattle.fs_rauzy.specs.Runs.{Point, Leads, start_of, EndsRun, all_closed, ArePartsAscending}
 use Rattle.fs_rauzy.specs.Towers.{Base, base_of, MeetsBase}
+use Rattle.fs_rauzy.proofs.AscendingBases.{run_ascending}
 use Rattle.fs_rauzy.proofs.BasesMet.{AreMetOnce}
 use Rattle.fs_rauzy.proofs.PartsMet.{part_base, IsClosedPart, run_has_parts}
 use Rattle.fs_components.specs.declared.flow.Flow.{Flow}
@@ -141,8 +142,7 @@ module _ (s : GluedPolygons) (v : PlaneVector) where
 
     -- the parts at the end of the run of the exchange
     module _ (c : Component) (given : GivesExchange s v (Ok c)) (exchange : IsExchange s v c) (p : Point) (leads : Leads s.d (start_of (c ∷ [])) p) (closed : p.components ≡ []) (parts : List Measured)
-        (measures : AreMeasured s v p.parts parts)
-        (ascending : ArePartsAscending s.d (map (λ (m : Measured). m.part) parts)) where
+        (measures : AreMeasured s v p.parts parts) where
       parts_mean : FlowMeans s v parts
       parts_mean =
           let L = surface_order s surface.surface in
@@ -153,23 +153,16 @@ module _ (s : GluedPolygons) (v : PlaneVector) where
           let area : total (map (λ (m : Measured). scaled_area s.d v m.part.letters) parts) ≡ total (map (λ letter. mul s.d letter.length (dot s.d v letter.back)) c.top)
           = ap total (read_through Quadratic (λ (p : Part). scaled_area s.d v p.letters) parts ∙ ap (map (λ (p : Part). scaled_area s.d v p.letters)) are) ∙ run_area s.d v L c state p leads closed in
           record {
-            ascending = ascending;
+            ascending = subst (ArePartsAscending s.d) (sym are) (run_ascending L (c ∷ []) state p leads);
             each = each_measured (IsClosedPart s v) (IsPart s v) part_is p.parts parts measures h.parts;
             some = meets_some parts met;
             only_one = meets_one parts met;
             areas = (λ i. add (area i) (area i)) ∙ exchange_area s surface.surface v some c exchange;
           }
 
-    run_means : (n : ℕ) (c : Component) (run : Run) (parts : List Measured) → GivesExchange s v (Ok c) → EndsRun s.d n (c ∷ []) (Ok run) → AreMeasured s v run.parts parts
-        → ArePartsAscending s.d (map (λ (m : Measured). m.part) parts) → FlowMeans s v parts
-    run_means n c _ parts (exchanged _ ok fits is) (all_closed p leads closed few) measures ascending = parts_mean c (exchanged c ok fits is) is p leads closed parts measures ascending
+    run_means : (n : ℕ) (c : Component) (run : Run) (parts : List Measured) → GivesExchange s v (Ok c) → EndsRun s.d n (c ∷ []) (Ok run) → AreMeasured s v run.parts parts → FlowMeans s v parts
+    run_means n c _ parts (exchanged _ ok fits is) (all_closed p leads closed few) measures = parts_mean c (exchanged c ok fits is) is p leads closed parts measures
 
--- where the parts ascend, they fill the surface, and are what they are said to be
-pub flow_means : (s : GluedPolygons) → IsSurface s → (v : PlaneVector) → v ≢ vector_zero → (n : ℕ) (flow : Flow) → EndsFlow s v n (Ok flow)
-    → ArePartsAscending s.d (map (λ (m : Measured). m.part) flow.parts) → FlowMeans s v flow.parts
-flow_means s surface v some n _ (decomposed c run list parts given ended connected measures) ascending = run_means s v surface some n c run parts given ended measures ascending
-
--- measured parts ascend where the parts do
-pub measured_ascend : (s : GluedPolygons) (v : PlaneVector) (d : ℕ) → d ≡ s.d → (parts : List Part) (measured : List Measured) → AreMeasured s v parts measured → ArePartsAscending d parts
-    → ArePartsAscending s.d (map (λ (m : Measured). m.part) measured)
-measured_ascend s v d same parts measured are h = subst (ArePartsAscending s.d) (sym (parts_of_measured s v parts measured are)) (subst (λ d. ArePartsAscending d parts) same h)
+-- the parts of a decomposition ascend, fill the surface, and are what they are said to be
+pub flow_means : (s : GluedPolygons) → IsSurface s → (v : PlaneVector) → v ≢ vector_zero → (n : ℕ) (flow : Flow) → EndsFlow s v n (Ok flow) → FlowMeans s v flow.parts
+flow_means s surface v some n _ (decomposed c run list parts given ended connected measures) = run_means s v surface some n c run parts given ended measures

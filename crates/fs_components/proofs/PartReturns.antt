@@ -51,7 +51,8 @@ lengths_are : (letters : List Long) → map (λ (l : Letter). l.length) (map kep
 lengths_are [] = refl
 lengths_are (x ∷ xs) = ap (λ (ls : List Quadratic). x.length ∷ ls) (lengths_are xs)
 
-one_item : {X : Type 0} (xs : List X) → length xs ≡ 1 → (x : X) × (xs ≡ x ∷ [])
+-- a list of one item
+pub one_item : {X : Type 0} (xs : List X) → length xs ≡ 1 → (x : X) × (xs ≡ x ∷ [])
 one_item [] e = absurd (omega arith)
 one_item (x ∷ []) e = (x, refl)
 one_item (x ∷ y ∷ xs) e = absurd (omega arith)

@@ -5,6 +5,7 @@ pub mod ComputedMeasures
 pub mod CornerMeasures
 pub mod CrossingMaps
 pub mod ExchangeCrossings
+pub mod ExchangeExists
 pub mod ExchangeNames
 pub mod ExchangeResults
 pub mod ExchangeRows

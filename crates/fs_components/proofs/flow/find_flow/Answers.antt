@@ -4,7 +4,7 @@ use Rattle.fs_lists.proofs.Results.{at_exit}
 use Rattle.fs_components.specs.Flows.{EndsFlow, ReturnsFlow}
 use Rattle.fs_components.proofs.ExchangeStates.{given_sizes}
 use Rattle.fs_components.proofs.FlowEnds.{run_read, exchange_ended, run_ended, is_run, connections_ended, parts_ended, flow_ended}
-use Rattle.fs_components.proofs.FlowMeans.{flow_means, measured_ascend}
+use Rattle.fs_components.proofs.FlowMeans.{flow_means}
 use Rattle.fs_components.proofs.FlowUnique.{flow_returned}
 use Rattle.fs_components.proofs.flow.find_flow.Goals as goal
 
@@ -82,4 +82,3 @@ pub returns-clause-means : goal.returns-clause-means
 returns-clause-means c =
     flow_means c.args.surface.now c.field.ensures.surface c.args.v c.requires.direction c.args.budget
     (record { connections = c.in_ok-connections.connections; parts = c.in_ok-parts.parts; steps = c.in_ok-run.run'.steps }) (returns-clause-flow c)
-    (measured_ascend c.args.surface.now c.args.v c.in-Ok.state.d (c.in-Ok.ensures.field ∙ c.in_ok-exchange.ensures.field) c.in_ok-run.run'.parts c.in_ok-parts.parts c.in_ok-parts.ensures.measured c.in_ok-run.ensures.ascending)
