@@ -1,8 +1,12 @@
 -- The texts of the answer to `flow`, line by line.
-use Rattle.std.proofs.Common.{◌≡◌, ℕ, List, ◌∷◌, [], ◌++◌, refl, ◌∙◌, ap, append_assoc}
+use Rattle.std.proofs.Common.{◌≡◌, ℕ, Some, None, List, ◌∷◌, [], ◌++◌, refl, ◌∙◌, ap, append_assoc}
 use Rattle.std.specs.Fmt.{decimal}
+use Rattle.std.specs.List.{slice_get}
 use Rattle.std.specs.Prelude.{codes}
 use Rattle.fs_plane.specs.declared.corners.Corner.{Corner}
+use Rattle.fs_rauzy.specs.declared.parts.Letter.{Letter}
+use Rattle.fs_report.specs.DelaunayText.{vector_text}
+use Rattle.fs_report.specs.FlowText.{holonomy_text}
 use Rattle.fs_report.specs.Text.{line_of, corner_text}
 
 -- the text with the line of a connection added
@@ -34,3 +38,15 @@ minimal_spelled letters letters' from to base base' area area' text b l a whole 
     whole
     ∙ (simp append_assoc refl
     ∙ (λ i. codes "minimal" ++ b i ++ codes " letters " ++ decimal (l i) ++ codes " loop " ++ decimal from ++ codes " " ++ decimal to ++ codes " area " ++ a i))
+
+-- the text of the return vector of the first letter
+pub first_spelled : (den : ℕ) (letters : List Letter) (letter : Letter) → Some letter ≡ slice_get letters 0 → vector_text den letter.back ≡ holonomy_text den letters
+first_spelled den [] letter e = absurd cc
+first_spelled den (x ∷ xs) letter e =
+    let same : letter ≡ x = cc in
+    ap (λ (l : Letter). vector_text den l.back) same
+
+-- where there is no letter, there is no text
+pub none_spelled : (den : ℕ) (letters : List Letter) → None ≡ slice_get letters 0 → [] ≡ holonomy_text den letters
+none_spelled den [] e = refl
+none_spelled den (x ∷ xs) e = absurd cc

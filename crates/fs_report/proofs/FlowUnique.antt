@@ -17,8 +17,8 @@ use Rattle.fs_components.specs.declared.flow.Flow.{Flow}
 use Rattle.fs_components.specs.FlowMeaning.{FlowMeans}
 use Rattle.fs_components.specs.Flows.{EndsFlow, ReturnsFlow, exchange_stops, run_stops, keep_stops, value_stops, decomposed}
 use Rattle.fs_components.proofs.FlowUnique.{flow_unique}
-use Rattle.fs_components.proofs.PendingMeaning.{flow_means}
-use Rattle.fs_components.proofs.PendingExists.{flow_exists}
+use Rattle.fs_components.proofs.FlowExists.{flow_exists}
+use Rattle.fs_components.proofs.FlowMeans.{flow_means}
 use Rattle.fs_report.specs.Text.{overflow_line}
 use Rattle.fs_report.specs.FlowText.{AnswersFlow, whole, overflowed, undecided, IsFlowStopText, flow_words, flow_text, steps_line}
 

@@ -1,0 +1,12 @@
+use Rattle.std.proofs.Common.{◌∙◌}
+use Rattle.std.proofs.lemmas.Result.{IfOk-weaker}
+use Rattle.std.specs.Prelude.{unsigned_abs}
+use Rattle.fs_report.proofs.FlowTexts.{first_spelled, none_spelled}
+use Rattle.fs_report.proofs.flow.holonomy_text.Goals as goal
+
+pub returns-in-Some : goal.returns-in-Some
+returns-in-Some c =
+    IfOk-weaker c.unscaled_text.result _ _ (λ text e. e ∙ first_spelled (unsigned_abs c.args.den) c.args.letters.now c.in-Some.letter.now c.in-Some.ensures.value) c.unscaled_text.ensures
+
+pub returns-in-None : goal.returns-in-None
+returns-in-None c = c.new.ensures ∙ none_spelled (unsigned_abs c.args.den) c.args.letters.now c.in-None.ensures.value
