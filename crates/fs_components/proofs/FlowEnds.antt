@@ -8,17 +8,23 @@ use Rattle.fs_gluing.specs.Exchanges.{Component}
 use Rattle.fs_gluing.specs.Surface.{GluedPolygons}
 use Rattle.fs_iet.specs.ExchangeSites.{GivesExchange}
 use Rattle.fs_iet.specs.ExchangeValue.{ReturnsExchange}
+use Rattle.fs_rauzy.specs.declared.parts.Logged.{Logged}
+use Rattle.fs_rauzy.specs.declared.parts.Parts.{Parts}
 use Rattle.fs_rauzy.specs.declared.parts.Run.{Run}
-use Rattle.fs_rauzy.specs.Runs.{EndsRun, ReturnsRun}
+use Rattle.fs_rauzy.specs.Runs.{EndsRun, EndsParts, ReturnsParts}
 use Rattle.fs_components.specs.declared.flow.Measured.{Measured}
 use Rattle.fs_components.specs.Connections.{EndsConnections, ReturnsConnections, IsRunOf}
 use Rattle.fs_components.specs.Flows.{EndsFlow, exchange_stops, run_stops, keep_stops, value_stops, decomposed, ReturnsFlow, AreMeasured}
 use Rattle.fs_components.specs.Gathering.{StopsAtMeasure}
 
 -- the run of a state is that of its exchange
-pub run_read : (d : ℕ) (components : List Component) (s_d n : ℕ) (c : Component) (x_d : ℕ) (r : Result Run Stop) → d ≡ x_d → x_d ≡ s_d → components ≡ c ∷ [] → ReturnsRun (EndsRun d n components) r
-    → ReturnsRun (EndsRun s_d n (c ∷ [])) r
-run_read d components s_d n c x_d r field same is h = subst (λ cs. ReturnsRun (EndsRun s_d n cs) r) is (subst (λ k. ReturnsRun (EndsRun k n components) r) (field ∙ same) h)
+pub run_read : (d : ℕ) (components : List Component) (s_d n : ℕ) (c : Component) (x_d : ℕ) (r : Result Parts Stop) → d ≡ x_d → x_d ≡ s_d → components ≡ c ∷ [] → ReturnsParts (EndsParts d n components) r
+    → ReturnsParts (EndsParts s_d n (c ∷ [])) r
+run_read d components s_d n c x_d r field same is h = subst (λ cs. ReturnsParts (EndsParts s_d n cs) r) is (subst (λ k. ReturnsParts (EndsParts k n components) r) (field ∙ same) h)
+
+-- the run of these parts with its events
+abbrev pub run_with : Parts → List Logged → Run
+run_with parts events = record { events = events; parts = parts.parts; found = parts.found; steps = parts.steps }
 
 module _ (s : GluedPolygons) (v : PlaneVector) (n : ℕ) where
   abbrev Returns : Stop → Type 0
@@ -32,7 +38,7 @@ module _ (s : GluedPolygons) (v : PlaneVector) (n : ℕ) where
 
   module _ (c : Component) (given : GivesExchange s v (Ok c)) where
     -- the run stops
-    pub run_ended : (stop : Stop) → ReturnsRun (EndsRun s.d n (c ∷ [])) (Err stop) → Returns stop
+    pub run_ended : (stop : Stop) → ReturnsParts (EndsParts s.d n (c ∷ [])) (Err stop) → Returns stop
     run_ended NoMemory h = tt
     run_ended (Undecided k) h = run_stops c (Undecided k) given h
     run_ended (Overflow site) h = run_stops c (Overflow site) given h

@@ -12,6 +12,7 @@ ghost use Rattle.fs_gluing.specs.Gluing.{sides_between};
 ghost use Rattle.fs_gluing.specs.NextCorner.{side_count};
 ghost use Rattle.fs_gluing.specs.Polygons.{HasSide};
 ghost use Rattle.fs_iet.specs.Rows.{HaveWidths};
+ghost use Rattle.fs_rauzy.specs.declared.parts.Run.{Run};
 ghost use Rattle.fs_components.specs.Connections.{AreConnections, EndsConnections, ReturnsConnections, IsRunOf};
 ghost use Rattle.fs_components.specs.Gathering.{AreSidesAlong, AreKept, IsKeptAfter, StopsKeeping, StopsAtConnection};
 
@@ -38,8 +39,23 @@ pub fn connections(
     ensures list { ReturnsConnections (EndsConnections surface.now v run.now.found) result }
     ensures only { (given : Result (List Listed) Stop) → EndsConnections surface.now v run.now.found given → ReturnsConnections (λ returned. returned ≡ given) result }
 {
+    list_connections(alloc, surface, v, &run.found)
+}
+
+// The same, by the connections that the run found.
+pub fn list_connections(
+    alloc: Global,
+    surface: &Surface,
+    v: V2,
+    found: &Sequence<Found>,
+) -> Result<Sequence<Listed>, Stop>
+    requires direction { v ≢ vector_zero }
+    requires run { (run : Run) × IsRunOf surface.now v run × (run.found ≡ found.now) }
+    ensures list { ReturnsConnections (EndsConnections surface.now v found.now) result }
+    ensures only { (given : Result (List Listed) Stop) → EndsConnections surface.now v found.now given → ReturnsConnections (λ returned. returned ≡ given) result }
+{
     let field = surface.field();
-    let connections = gather(alloc, surface, v, run.found.as_slice())?;
+    let connections = gather(alloc, surface, v, found.as_slice())?;
     let mut list = keep_all(alloc, field, connections.as_slice())?;
     list.sort_unstable();
     Ok(Sequence::from_vec(list))

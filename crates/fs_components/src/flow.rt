@@ -9,13 +9,13 @@ ghost use Rattle.fs_components.specs.FlowMeaning.{FlowMeans};
 ghost use Rattle.fs_components.specs.Flows.{EndsFlow, ReturnsFlow, GivesMeasures, AreMeasured, measured};
 ghost use Rattle.fs_components.specs.Gathering.{IsShort, StopsAtMeasure};
 
-use crate::along::connections;
+use crate::along::list_connections;
 use crate::measures::{PartMeasures, measure_cylinder, measure_looped};
 use fs_fraction::Frac;
 use fs_gluing::{Sequence, Surface};
 use fs_iet::find_exchange;
 use fs_plane::{Listed, Place, Site, Stop, V2};
-use fs_rauzy::{Kind, Part, State, find_run};
+use fs_rauzy::{Kind, Part, State, find_parts};
 use std::alloc::{AllocError, Global};
 
 /// A part of a flow, with its unscaled measures.
@@ -50,7 +50,7 @@ pub struct Flow {
 /// and `Value` where a measure of a part overflows, part after part; as `Undecided(budget)` exactly where `find_run` is. The
 /// places of `Value` are, for a cylinder: 1 to 5 the square of its holonomy, 6 to 13 that of its height, 14 to 20 its area;
 /// for another part 7 to 10 the inverse of the squared length of `v`, 21 + 5t to 25 + 5t the share of letter t, 6018 to 6020
-/// the area. The cost is that of the induction; the memory is linear in the sides and the events.
+/// the area. The cost is that of the induction; the memory is linear in the sides.
 pub fn find_flow(alloc: Global, surface: &Surface, v: V2, budget: u32) -> Result<Flow, Stop>
     requires direction { v ≢ vector_zero }
     requires budget { budget ≤ 1000000 }
@@ -67,8 +67,8 @@ pub fn find_flow(alloc: Global, surface: &Surface, v: V2, budget: u32) -> Result
         Ok(state) => state,
         Err(_) => return Err(Stop::NoMemory),
     };
-    let run = find_run(alloc, state, budget)?;
-    let connections = connections(alloc, surface, v, &run)?;
+    let run = find_parts(alloc, state, budget)?;
+    let connections = list_connections(alloc, surface, v, &run.found)?;
     let parts = measure_parts(alloc, surface, v, run.parts)?;
     Ok(Flow {
         connections,

@@ -14,6 +14,7 @@ pub mod CylinderReturns
 pub mod CylinderSides
 pub mod DividedBases
 pub mod DividedComponents
+mod EarlierEvents
 mod EventNumbers
 pub mod EventReturns
 pub mod EventRows
@@ -57,6 +58,7 @@ pub mod RunsUnderWay
 mod SearchedRows
 pub mod ShiftedLines
 pub mod ShortenedComponents
+mod SmallProducts
 mod SplitInPlace
 pub mod SplitPlaces
 mod SplitSteps

@@ -10,6 +10,11 @@ pub event_number-append : (events : List Logged) (logged : Logged) → event_num
 event_number-append [] logged = omega arith
 event_number-append (e ∷ events) logged = let more = event_number-append events logged in omega arith
 
+-- the events of two lists with numbers are those of both
+pub event_number-joined : (earlier events : List Logged) → event_number (earlier ++ events) ≡ event_number earlier + event_number events
+event_number-joined [] events = omega arith
+event_number-joined (e ∷ earlier) events = let more = event_number-joined earlier events in omega arith
+
 -- a closing has none
 pub closing_number : (events after : List Logged) (logged : Logged) → after ≡ events ++ logged ∷ [] → logged.event ≡ Closed → event_number after ≡ event_number events
 closing_number events after logged e closed =

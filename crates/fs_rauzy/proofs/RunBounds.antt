@@ -155,7 +155,7 @@ module _ {d : ℕ} (radicand : IsRadicand d) (components : List Component) (stat
   run_in_bounds p (event r _ before g) = goes_in_bounds L (weight components) r p (led_state L components r state before) g (run_in_bounds r before)
 
   -- where a run leads, and a component is open, it can go on
-  pub run_can_go : (n : ℕ) (p : Point) → Leads d (start_of components) p → IsOpen p.components → p.steps ≤ n → CanGo d n p
+  pub run_can_go : (n : ℕ) (p : Point) → Leads d (start_of components) p → IsOpen p.components → p.steps ≤ n → CanGo d n (event_number p.events) p
   run_can_go n p leads is_open within =
       let b = run_in_bounds p leads in
       let few = b.few in

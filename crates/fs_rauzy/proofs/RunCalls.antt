@@ -1,10 +1,10 @@
 -- The calls on a run under way, by the values that they see: x is what its fields say, and now its value.
-use Rattle.std.proofs.Common.{◌≡◌, ℕ, ◌+◌, ◌<◌, ◌≤◌, Bool, true, false, Option, Some, IsSome, Result, Ok, Err, OnOk, IfErr, List, [], ◌∷◌, ◌++◌, reverse, refl, sym, ap, ◌∙◌, subst}
+use Rattle.std.proofs.Common.{◌≡◌, ℕ, ◌+◌, ◌<◌, ◌≤◌, Bool, true, false, cond, Option, Some, IsSome, Result, Ok, Err, OnOk, IfErr, List, [], ◌∷◌, ◌++◌, reverse, refl, sym, ap, ◌∙◌, subst, inl, inr, arith}
 use Rattle.std.proofs.lemmas.List.{reverse-append}
 use Rattle.fs_quadratic.specs.declared.steps.Place.{Place}
 use Rattle.fs_plane.specs.declared.sites.Site.TheVariants as sites
 use Rattle.fs_plane.specs.declared.sites.Stop.{Stop}
-use Rattle.fs_plane.specs.declared.sites.Stop.TheVariants.{Undecided, Overflow}
+use Rattle.fs_plane.specs.declared.sites.Stop.TheVariants.{Undecided, Overflow, NoMemory}
 use Rattle.std.specs.List.{AllByRecursion}
 use Rattle.fs_quadratic.proofs.Laws.{field_order}
 use Rattle.fs_gluing.specs.Exchanges.{Component, IsLawful}
@@ -18,10 +18,11 @@ use Rattle.fs_rauzy.specs.declared.parts.Part.{Part}
 use Rattle.fs_rauzy.specs.declared.states.Choice.TheVariants as choices
 use Rattle.fs_rauzy.specs.Events.{Outcome}
 use Rattle.fs_rauzy.specs.Rule.{IsNext, is_step}
-use Rattle.fs_rauzy.specs.Runs.{Point, Checkpoint, part_of, event_number, BeginsAnew, Goes}
-use Rattle.fs_rauzy.specs.RunsInPlace.{ProgressValue, noted, renumbered, checkpoint_of, checkpoint_in, ClosesTo, IsCompared, LooksBack, OverflowsWhere, budget_spent, StopsRun, CanGo}
+use Rattle.fs_rauzy.specs.Runs.{Point, Checkpoint, part_of, is_numbered, event_number, BeginsAnew, Goes}
+use Rattle.fs_rauzy.specs.RunsInPlace.{ProgressValue, noted, renumbered, checkpoint_of, checkpoint_in, counted, Counts, ClosesTo, IsCompared, LooksTo, LooksBack, OverflowsWhere, budget_spent, StopsRun, StopsFrom, CanGo}
 use Rattle.fs_rauzy.specs.StatesInPlace.{IsChoice}
 use Rattle.fs_rauzy.specs.Steps.{AtCurrent, SplitsAt, IsMadeBy, IsStoppedBy}
+use Rattle.fs_rauzy.proofs.NumberedEvents.{event_number-append}
 use Rattle.fs_rauzy.proofs.StepExists.{next_step_exists}
 use Rattle.fs_rauzy.proofs.RunChanges as changes
 use Rattle.fs_rauzy.proofs.RunChanges.{outcome_of}
@@ -30,6 +31,10 @@ use Rattle.fs_rauzy.proofs.RunChanges.{outcome_of}
 pub on_ok : {A E : Type 0} {P Q : Type 0} (r : Result A E) → (P → Q) → OnOk r P → OnOk r Q
 on_ok (Ok v) f h = f h
 on_ok (Err e) f h = tt
+
+pub on_both : {A E : Type 0} {P Q S : Type 0} (r : Result A E) → (P → Q → S) → OnOk r P → OnOk r Q → OnOk r S
+on_both (Ok v) f h k = f h k
+on_both (Err e) f h k = tt
 
 -- or of an error
 pub if_err : {A E : Type 0} {P Q : E → Type 0} (r : Result A E) → ((e : E) → P e → Q e) → IfErr r P → IfErr r Q
@@ -43,7 +48,50 @@ step_begins (Merged found) s other = tt
 step_begins (Split k found) s other = tt
 step_begins Closed s other = absurd cc
 
+-- a comparison doesn't depend on the events
+overflow_with : (d : ℕ) (p : Point) (events : List Logged) (m : ℕ) → event_number events ≡ m → (stop : Stop) → OverflowsWhere m (λ place. IsCompared d p (Err place)) stop
+    → OverflowsWhere (event_number events) (λ place. IsCompared d (record p { events = events }) (Err place)) stop
+overflow_with d p events m numbered NoMemory h = tt
+overflow_with d p events m numbered (Undecided n) h = absurd h
+overflow_with d p events m numbered (Overflow site) h =
+    let k = h.2 in (
+      h.0,
+      h.1 ∙ ap (λ number. sites.Event number h.0.0) (sym numbered),
+      record { component = k.component; rest = k.rest; components = k.components; saved = k.saved; saved_before = k.saved_before; compared = k.compared },
+    )
+
+-- an event of the list is numbered, or not
+noted_counts : (event : Event) (n m before after : ℕ) → m ≡ counted event n → after ≡ before + cond (is_numbered event) 1 0 → m + before ≡ n + after
+noted_counts (Won top) n m before after e f = omega arith
+noted_counts (Merged found) n m before after e f = omega arith
+noted_counts (Split k found) n m before after e f = omega arith
+noted_counts Closed n m before after e f = omega arith
+
+looked_events : (d : ℕ) (logged : Logged) (p q : Point) (same : Bool) → LooksTo logged p same q → q.events ≡ p.events ++ logged ∷ []
+looked_events d logged p q true b = ap (λ (x : Point). x.events) b
+looked_events d logged p q false (inl b) = ap (λ (x : Point). x.events) b.1
+looked_events d logged p q false (inr b) = ap (λ (x : Point). x.events) b.1
+
 module _ (x now : ProgressValue) (same : x ≡ now) where
+  -- an event came to the list, and was numbered where it has a number
+  counts_listed : (logged : Logged) (q : ProgressValue) → q.numbered ≡ counted logged.event x.numbered → q.point.events ≡ x.point.events ++ logged ∷ [] → Counts now q
+  counts_listed logged q numbered listed =
+      subst (λ (v : ProgressValue). Counts v q) same
+      (noted_counts logged.event x.numbered q.numbered (event_number x.point.events) (event_number q.point.events) numbered
+      (ap event_number listed ∙ event_number-append x.point.events logged))
+
+  -- it is noted, and the states are numbered anew
+  pub counts_begun : (logged : Logged) (between q : ProgressValue) → between.numbered ≡ counted logged.event x.numbered → between.point.events ≡ x.point.events ++ logged ∷ []
+      → q ≡ record between { point = renumbered between.point } → Counts now q
+  counts_begun logged between q numbered listed e =
+      counts_listed logged q (ap (λ (v : ProgressValue). v.numbered) e ∙ numbered) (ap (λ (v : ProgressValue). v.point.events) e ∙ listed)
+
+  -- it is noted, and the component is compared with its checkpoint
+  pub counts_looked : (logged : Logged) (d : ℕ) (between : Point) (q : ProgressValue) → between.events ≡ x.point.events → LooksBack d logged between q.point
+      → q.numbered ≡ counted logged.event x.numbered → Counts now q
+  counts_looked logged d between q events back numbered =
+      counts_listed logged q numbered (looked_events d logged between q.point back.same back.becomes ∙ ap (λ (es : List Logged). es ++ logged ∷ []) events)
+
   -- a component closes
   pub close_closes : (kind : Kind) (part : Part) (logged : Logged) (after : List Component) (items items_after : List Part) (between q : Point) → x.point.parts ≡ reverse items
       → AtCurrent (λ c. part ≡ part_of c kind) x.point.components → items_after ≡ items ++ part ∷ [] → IsMadeBy x.d (λ event. event ≡ Closed) x.point.components (outcome_of logged after)
@@ -75,8 +123,8 @@ module _ (x now : ProgressValue) (same : x ≡ now) where
       subst (λ (v : ProgressValue). Goes v.d v.point q) same (changes.goes_by_cylinder x.d x.point q going choice closes_x)
 
   -- the budget is spent
-  pub budget_stops : (n : ℕ) → CanGo now.d n now.point → x.point.looped ≡ false → IsChoice x.point.components choices.Compare → x.point.steps ≡ n → StopsRun now.d n now.point (Undecided n)
-  budget_stops n ready going choice spent =
+  pub budget_stops : (n : ℕ) → CanGo now.d n now.numbered now.point → x.point.looped ≡ false → IsChoice x.point.components choices.Compare → x.point.steps ≡ n → StopsFrom now.d n now.numbered now.point (Undecided n)
+  budget_stops n ready going choice spent = λ events numbered.
       let next = next_of now.point.components ready.state.lawful (subst (λ (v : ProgressValue). IsChoice v.point.components choices.Compare) same choice) in
       budget_spent next.0 (ap (λ (v : ProgressValue). v.point.steps) (sym same) ∙ spent) (ap (λ (v : ProgressValue). v.point.looped) (sym same) ∙ going) next.1 next.2
     where
@@ -91,22 +139,23 @@ module _ (x now : ProgressValue) (same : x ≡ now) where
       changes.goes_by_split now.d k logged after now.point q going choice (subst (λ (v : ProgressValue). IsMadeBy v.d (SplitsAt k) v.point.components (outcome_of logged after)) same made)
       (e ∙ ap renumbered b ∙ ap (λ (v : ProgressValue). renumbered (noted logged (record v.point { components = after }))) same)
 
-  site_now : (stop : Place) (result : Stop) → result ≡ Overflow (sites.Event (event_number x.point.events) stop.0) → Overflow (sites.Event (event_number now.point.events) stop.0) ≡ result
-  site_now stop result is = ap (λ (v : ProgressValue). Overflow (sites.Event (event_number v.point.events) stop.0)) (sym same) ∙ sym is
+  site_now : (stop : Place) (result : Stop) (events : List Logged) → event_number events ≡ now.numbered → result ≡ Overflow (sites.Event x.numbered stop.0)
+      → Overflow (sites.Event (event_number events) stop.0) ≡ result
+  site_now stop result events numbered is = ap (λ m. Overflow (sites.Event m stop.0)) (numbered ∙ ap (λ (v : ProgressValue). v.numbered) (sym same)) ∙ sym is
 
   -- it stops
   pub split_stops : (k : ℕ) (stop : Place) (result : Stop) → now.point.looped ≡ false → IsChoice now.point.components (choices.Split k) → IsStoppedBy x.d (SplitsAt k) x.point.components stop
-      → result ≡ Overflow (sites.Event (event_number x.point.events) stop.0) → (n : ℕ) → now.point.steps ≤ n → StopsRun now.d n now.point result
-  split_stops k stop result going choice s is n few =
-      subst (StopsRun now.d n now.point) (site_now stop result is)
-      (changes.split_stops now.d k now.point stop going choice (subst (λ (v : ProgressValue). IsStoppedBy v.d (SplitsAt k) v.point.components stop) same s) n few)
+      → result ≡ Overflow (sites.Event x.numbered stop.0) → (n : ℕ) → now.point.steps ≤ n → StopsFrom now.d n now.numbered now.point result
+  split_stops k stop result going choice s is n few = λ events numbered.
+      subst (StopsRun now.d n (record now.point { events = events })) (site_now stop result events numbered is)
+      (changes.split_stops now.d k (record now.point { events = events }) stop going choice (subst (λ (v : ProgressValue). IsStoppedBy v.d (SplitsAt k) v.point.components stop) same s) n few)
 
   -- a comparison of the last letters stops
   pub comparison_stops : (stop : Place) (result : Stop) → now.point.looped ≡ false → IsChoice now.point.components choices.Compare → IsStoppedBy x.d (λ event. is_step event ≡ true) x.point.components stop
-      → result ≡ Overflow (sites.Event (event_number x.point.events) stop.0) → (n : ℕ) → now.point.steps < n → StopsRun now.d n now.point result
-  comparison_stops stop result going choice s is n room =
-      subst (StopsRun now.d n now.point) (site_now stop result is)
-      (changes.comparison_of_last_stops now.d now.point stop going choice (subst (λ (v : ProgressValue). IsStoppedBy v.d (λ event. is_step event ≡ true) v.point.components stop) same s) n room)
+      → result ≡ Overflow (sites.Event x.numbered stop.0) → (n : ℕ) → now.point.steps < n → StopsFrom now.d n now.numbered now.point result
+  comparison_stops stop result going choice s is n room = λ events numbered.
+      subst (StopsRun now.d n (record now.point { events = events })) (site_now stop result events numbered is)
+      (changes.comparison_of_last_stops now.d (record now.point { events = events }) stop going choice (subst (λ (v : ProgressValue). IsStoppedBy v.d (λ event. is_step event ≡ true) v.point.components stop) same s) n room)
 
   module _ (logged : Logged) (after : List Component) (going : now.point.looped ≡ false) (choice : IsChoice now.point.components choices.Compare)
       (made : IsMadeBy x.d (λ event. is_step event ≡ true) x.point.components (outcome_of logged after)) where
@@ -128,8 +177,10 @@ module _ (x now : ProgressValue) (same : x ≡ now) where
 
     -- the comparison after it stops
     pub look_stops : (top : Bool) (d : ℕ) (stop : Stop) → logged.event ≡ Won top → d ≡ x.d
-        → OverflowsWhere (record x.point { components = after; steps = x.point.steps + 1 }) (λ place. IsCompared d (record x.point { components = after; steps = x.point.steps + 1 }) (Err place)) stop
-        → (n : ℕ) → now.point.steps < n → StopsRun now.d n now.point stop
-    look_stops top d stop event field h n room =
-        let at : ProgressValue → ℕ → Type 0 = λ v e. OverflowsWhere (record v.point { components = after; steps = v.point.steps + 1 }) (λ place. IsCompared e (record v.point { components = after; steps = v.point.steps + 1 }) (Err place)) stop in
-        changes.stops_at_comparison now.d logged after now.point going choice made_now top event stop (subst (λ (v : ProgressValue). at v v.d) same (subst (at x) field h)) n room
+        → OverflowsWhere x.numbered (λ place. IsCompared d (record x.point { components = after; steps = x.point.steps + 1 }) (Err place)) stop
+        → (n : ℕ) → now.point.steps < n → StopsFrom now.d n now.numbered now.point stop
+    look_stops top d stop event field h n room = λ events numbered.
+        let at : ProgressValue → ℕ → Type 0 = λ v e. OverflowsWhere v.numbered (λ place. IsCompared e (record v.point { components = after; steps = v.point.steps + 1 }) (Err place)) stop in
+        let there : at now now.d = subst (λ (v : ProgressValue). at v v.d) same (subst (at x) field h) in
+        changes.stops_at_comparison now.d logged after (record now.point { events = events }) going choice made_now top event stop
+        (overflow_with now.d (record now.point { components = after; steps = now.point.steps + 1 }) events now.numbered numbered stop there) n room

@@ -148,7 +148,7 @@ module _ (d : ℕ) (logged : Logged) (after : List Component) (p : Point) (going
             subst (Goes d p) (sym (keeps.1 ∙ as_won p.saved false)) (wins o k.component k.saved (compares_at (Ok false) k) keeps.0)
 
     -- the comparison after it overflows
-    pub stops_at_comparison : (stop : Stop) → OverflowsWhere between (λ place. IsCompared d between (Err place)) stop → (n : ℕ) → p.steps < n → StopsRun d n p stop
+    pub stops_at_comparison : (stop : Stop) → OverflowsWhere (event_number p.events) (λ place. IsCompared d between (Err place)) stop → (n : ℕ) → p.steps < n → StopsRun d n p stop
     stops_at_comparison NoMemory h n room = tt
     stops_at_comparison (Undecided m) h n room = absurd h
     stops_at_comparison (Overflow site) h n room =

@@ -15,6 +15,7 @@ use Rattle.fs_rauzy.specs.declared.parts.Kind.{Kind}
 use Rattle.fs_rauzy.specs.declared.parts.Kind.TheVariants.{Cylinder, Looped}
 use Rattle.fs_rauzy.specs.declared.parts.Logged.{Logged}
 use Rattle.fs_rauzy.specs.declared.parts.Part.{Part}
+use Rattle.fs_rauzy.specs.declared.parts.Parts.{Parts}
 use Rattle.fs_rauzy.specs.declared.parts.Run.{Run}
 use Rattle.fs_rauzy.specs.Comparisons.{IsComparison}
 use Rattle.fs_rauzy.specs.Events.{Outcome}
@@ -169,6 +170,25 @@ ReturnsRun P (Ok run) = P (Ok run)
 ReturnsRun P (Err NoMemory) = Unit {0}
 ReturnsRun P (Err (Undecided n)) = P (Err (Undecided n))
 ReturnsRun P (Err (Overflow site)) = P (Err (Overflow site))
+
+-- ---- runs without their events
+
+-- a run, or its stop, without the events
+abbrev pub without_events : Result Run Stop → Result Parts Stop
+without_events (Ok run) = Ok (record { parts = run.parts; found = run.found; steps = run.steps })
+without_events (Err stop) = Err stop
+
+-- how a run of at most n steps ends, where its events aren't kept: with some events it ends so
+abbrev pub EndsParts : ℕ → ℕ → List Component → Result Parts Stop → Type 0
+EndsParts d n components (Ok parts) = (events : List Logged) × EndsRun d n components (Ok (record { events = events; parts = parts.parts; found = parts.found; steps = parts.steps }))
+EndsParts d n components (Err stop) = EndsRun d n components (Err stop)
+
+-- what holds of the parts or of the stop holds of what a call returns; where memory runs out it returns neither
+abbrev pub ReturnsParts : (Result Parts Stop → Type 0) → Result Parts Stop → Type 0
+ReturnsParts P (Ok parts) = P (Ok parts)
+ReturnsParts P (Err NoMemory) = Unit {0}
+ReturnsParts P (Err (Undecided n)) = P (Err (Undecided n))
+ReturnsParts P (Err (Overflow site)) = P (Err (Overflow site))
 
 -- each part ends where the next one begins, or left of that
 abbrev pub ArePartsAscending : ℕ → List Part → Type 0

@@ -1,5 +1,5 @@
 -- Where a run is, and how it goes on and ends there, as its inner calls say it. The contracts of public calls don't rest on this file.
-use Rattle.std.specs.Prelude.{◌≡◌, ◌⊎◌, ℕ, ◌+◌, ◌<◌, ◌≤◌, Bool, true, false, Option, Some, None, IsSome, Result, Ok, Err, List, [], ◌∷◌, ◌++◌}
+use Rattle.std.specs.Prelude.{◌≡◌, ◌⊎◌, ℕ, ◌+◌, ◌<◌, ◌≤◌, if◌then◌else◌, Bool, true, false, Option, Some, None, IsSome, Result, Ok, Err, List, [], ◌∷◌, ◌++◌}
 use Rattle.fs_quadratic.specs.Radicand.{IsRadicand}
 use Rattle.fs_quadratic.specs.Ring as ring
 use Rattle.fs_quadratic.specs.declared.steps.Place.{Place}
@@ -8,6 +8,7 @@ use Rattle.fs_plane.specs.declared.sites.Stop.{Stop}
 use Rattle.fs_plane.specs.declared.sites.Stop.TheVariants.{Undecided, Overflow, NoMemory}
 use Rattle.fs_gluing.specs.Exchanges.{Component}
 use Rattle.fs_rauzy.specs.declared.checkpoints.Checkpoint.{Checkpoint as Saved}
+use Rattle.fs_rauzy.specs.declared.events.Event.{Event}
 use Rattle.fs_rauzy.specs.declared.events.Event.TheVariants.{Closed}
 use Rattle.fs_rauzy.specs.declared.parts.Kind.{Kind}
 use Rattle.fs_rauzy.specs.declared.parts.Logged.{Logged}
@@ -16,13 +17,14 @@ use Rattle.fs_rauzy.specs.Comparisons.{IsComparison}
 use Rattle.fs_rauzy.specs.Events.{Outcome}
 use Rattle.fs_rauzy.specs.Measures.{weight}
 use Rattle.fs_rauzy.specs.Rule.{IsNext, StopsAt, is_step}
-use Rattle.fs_rauzy.specs.Runs.{Point, Checkpoint, IsSaved, first_checkpoint, found_by, part_of, begun, event_number, ComparesAt}
+use Rattle.fs_rauzy.specs.Runs.{Point, Checkpoint, IsSaved, first_checkpoint, found_by, part_of, begun, is_numbered, event_number, ComparesAt}
 use Rattle.fs_rauzy.specs.States.{IsState}
 use Rattle.fs_rauzy.specs.Steps.{IsOpen}
 
--- the field's d, and the point where a run is
+-- the field's d, how many events were numbered, and the point where a run is; of the events it lists the latest ones
 pub record ProgressValue : Type 0 where
   pub d : ℕ
+  pub numbered : ℕ
   pub point : Point
 
 -- the checkpoint of a number and the current one of these components
@@ -36,6 +38,14 @@ checkpoint_in None = None
 checkpoint_in (Some saved) = checkpoint_of saved.number saved.state.components
 
 -- ---- changes of a point
+
+-- how many events are numbered, with this one
+abbrev pub counted : Event → ℕ → ℕ
+counted event n = if is_numbered event then n + 1 else n
+
+-- as many events were numbered as came to the list with a number
+abbrev pub Counts : ProgressValue → ProgressValue → Type 0
+Counts v w = w.numbered + event_number v.point.events ≡ v.numbered + event_number w.point.events
 
 -- an event is noted, and what it found
 abbrev pub noted : Logged → Point → Point
@@ -78,11 +88,11 @@ pub record LooksBack (d : ℕ) (logged : Logged) (p q : Point) : Type 0 where
   pub compared : IsCompared d p (Ok same)
   pub becomes : LooksTo logged p same q
 
--- the place of an event, or of the comparison after it, for which this holds, is where a run overflows
-abbrev pub OverflowsWhere : Point → (Place → Type 0) → Stop → Type 0
-OverflowsWhere p P NoMemory = Unit {0}
-OverflowsWhere p P (Undecided n) = ⊥
-OverflowsWhere p P (Overflow site) = (stop : Place) × (site ≡ sites.Event (event_number p.events) stop.0) × P stop
+-- the place of event m, or of the comparison after it, for which this holds, is where a run overflows
+abbrev pub OverflowsWhere : ℕ → (Place → Type 0) → Stop → Type 0
+OverflowsWhere m P NoMemory = Unit {0}
+OverflowsWhere m P (Undecided n) = ⊥
+OverflowsWhere m P (Overflow site) = (stop : Place) × (site ≡ sites.Event m stop.0) × P stop
 
 -- ---- ends
 
@@ -101,12 +111,16 @@ StopsRun d n p NoMemory = Unit {0}
 StopsRun d n p (Undecided m) = EndsAt d n p (Err (Undecided m))
 StopsRun d n p (Overflow site) = EndsAt d n p (Err (Overflow site))
 
--- a run of at most n steps can go on here: a component is open, it has a checkpoint, and the numbers are in bounds
-pub record CanGo (d n : ℕ) (p : Point) : Type 0 where
+-- so it is with each list of events of which m have numbers
+abbrev pub StopsFrom : ℕ → ℕ → ℕ → Point → Stop → Type 0
+StopsFrom d n m p stop = (events : List Logged) → event_number events ≡ m → StopsRun d n (record p { events = events }) stop
+
+-- a run of at most n steps, of which m events were numbered, can go on here: a component is open, it has a checkpoint, and the numbers are in bounds
+pub record CanGo (d n m : ℕ) (p : Point) : Type 0 where
   pub radicand : IsRadicand d
   pub state : IsState (record { d = d; components = p.components })
   pub is_open : IsOpen p.components
   pub saved : IsSome p.saved
   pub within : p.steps ≤ n
   pub numbered : p.number ≤ p.steps
-  pub few : event_number p.events + weight p.components ≤ p.steps + 1024
+  pub few : m + weight p.components ≤ p.steps + 1024

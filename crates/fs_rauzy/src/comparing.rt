@@ -1,7 +1,10 @@
 // The comparison of two states of a component up to scale.
 
-ghost use Rattle.std.specs.Prelude.{◌≡◌, ◌≢◌, ◌↔◌, ◌<◌, ◌≤◌, ◌+◌, IsTrue, IfOk, length};
+ghost use Rattle.std.specs.Prelude.{◌≡◌, ◌≢◌, ◌↔◌, ◌<◌, ◌≤◌, ◌+◌, IsTrue, IfOk, length, pos};
 ghost use Rattle.std.specs.List.{AllByRecursion};
+ghost use Rattle.fs_quadratic.specs.Checked.{checked_product};
+ghost use Rattle.fs_quadratic.specs.Ring.{mul};
+ghost use Rattle.fs_quadratic.specs.Width.{IsSmall};
 ghost use Rattle.fs_iet.specs.ExchangeValue.{most_letters};
 ghost use Rattle.fs_rauzy.specs.Comparisons.{IsComparison, checked_proportion};
 ghost use Rattle.fs_rauzy.specs.Loops.{AreAlike};
@@ -63,11 +66,42 @@ fn is_proportional(
     for (n, &name) in names.iter().enumerate() {
         let place = 7 + 2 * n as u32;
         let (now, then) = (&after[name as usize], &before[name as usize]);
-        let left = product_at(place, field, now.length, total_before)?;
-        let right = product_at(place + 1, field, then.length, total)?;
+        let left = find_product(place, field, now.length, total_before)?;
+        let right = find_product(place + 1, field, then.length, total)?;
         if left != right {
             return Ok(false);
         }
     }
     Ok(true)
+}
+
+// The product, or this place where it overflows. That of two small rational numbers takes one multiplication.
+#[inline(always)]
+fn find_product(place: u32, field: Field, x: Elem, y: Elem) -> Result<Elem, Place>
+    ensures { result ≡ checked_product field.d place x y }
+{
+    if is_plain(x) && is_plain(y) {
+        return Ok(plain_product(field, x, y));
+    }
+    product_at(place, field, x, y)
+}
+
+// Whether a number is rational and small.
+#[inline(always)]
+fn is_plain(x: Elem) -> bool
+    ensures { IsTrue result ↔ ((x.q ≡ pos 0) × IsSmall x) }
+{
+    x.q() == 0 && x.is_small()
+}
+
+// The product of two such numbers.
+#[inline(always)]
+fn plain_product(field: Field, x: Elem, y: Elem) -> Elem
+    requires left { IsSmall x }
+    requires right { IsSmall y }
+    requires left_rational { x.q ≡ pos 0 }
+    requires right_rational { y.q ≡ pos 0 }
+    ensures { result ≡ mul field.d x y }
+{
+    field.mul_small(Elem::new(x.p(), 0), Elem::new(y.p(), 0))
 }

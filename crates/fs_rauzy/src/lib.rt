@@ -17,6 +17,6 @@ mod splitting;
 mod states;
 
 pub use events::{Event, Found};
-pub use parts::{Kind, Letter, Logged, Part, Run};
-pub use runs::find_run;
+pub use parts::{Kind, Letter, Logged, Part, Parts, Run};
+pub use runs::{find_parts, find_run};
 pub use states::State;

@@ -62,3 +62,14 @@ pub struct Run {
     /// How many of the events are steps: won comparisons and merges.
     pub steps: u32,
 }
+
+/// The run of an induction to its end, without its events.
+#[derive(Drop)]
+pub struct Parts {
+    /// The parts, from left to right.
+    pub parts: Sequence<Part>,
+    /// The connections that were found, in order.
+    pub found: Sequence<Found>,
+    /// How many events were steps: won comparisons and merges.
+    pub steps: u32,
+}

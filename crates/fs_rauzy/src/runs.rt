@@ -1,19 +1,19 @@
 // The run of the induction within a budget of steps.
 
-ghost use Rattle.std.specs.Prelude.{◌≡◌, ◌+◌, ◌<◌, ◌≤◌, ◌^◌, ℕ, Result, IfOk, IfErr, OnOk, IsSome, true, false};
+ghost use Rattle.std.specs.Prelude.{◌≡◌, ◌+◌, ◌<◌, ◌≤◌, ◌^◌, ℕ, Result, IfOk, IfErr, OnOk, IsSome, true, false, []};
 ghost use Rattle.fs_quadratic.specs.Radicand.{IsRadicand};
 ghost use Rattle.fs_plane.specs.declared.sites.Site.TheVariants as sites;
 ghost use Rattle.fs_plane.specs.declared.sites.Stop.{Stop};
 ghost use Rattle.fs_rauzy.specs.declared.parts.Run.{Run};
-ghost use Rattle.fs_rauzy.specs.Runs.{EndsRun, ReturnsRun, ArePartsAscending, Goes, start_of, event_number};
-ghost use Rattle.fs_rauzy.specs.RunsInPlace.{ClosesTo, LooksBack, IsCompared, OverflowsWhere, StopsRun, CanGo, noted, renumbered, saved_now};
+ghost use Rattle.fs_rauzy.specs.Runs.{EndsRun, ReturnsRun, EndsParts, ReturnsParts, ArePartsAscending, Goes, start_of, without_events};
+ghost use Rattle.fs_rauzy.specs.RunsInPlace.{ClosesTo, LooksBack, IsCompared, OverflowsWhere, StopsFrom, CanGo, Counts, counted, noted, renumbered, saved_now};
 ghost use Rattle.fs_rauzy.specs.States.{IsState};
 ghost use Rattle.fs_rauzy.specs.StatesInPlace.{IsChoice};
 ghost use Rattle.fs_rauzy.specs.Steps.{IsOpen};
 
 use crate::checkpoints::{Checkpoint, is_saved};
 use crate::events::{Event, Found};
-use crate::parts::{Kind, Logged, Part, Run};
+use crate::parts::{Kind, Logged, Part, Parts, Run};
 use crate::states::{Choice, State};
 use fs_gluing::Sequence;
 use fs_plane::{Place, Site, Stop};
@@ -45,6 +45,22 @@ pub fn find_run(alloc: Global, state: State, budget: u32) -> Result<Run, Stop>
     Ok(progress.finish())
 }
 
+/// The run of the induction from a state, as by `find_run`, without its events: they take no memory.
+pub fn find_parts(alloc: Global, state: State, budget: u32) -> Result<Parts, Stop>
+    requires { budget ≤ 1000000 }
+    ensures run { ReturnsParts (EndsParts state.d budget state.components) result }
+    // There is no other end of the run.
+    ensures only { (given : Result Run Stop) → EndsRun state.d budget state.components given → ReturnsParts (λ returned. returned ≡ without_events given) result }
+    ensures ascending { IfOk result (λ parts. ArePartsAscending state.d parts.parts) }
+{
+    let mut progress = Progress::start(alloc, state)?;
+    while !progress.state.is_done() {
+        progress.go(alloc, budget)?;
+        progress.forget_events();
+    }
+    Ok(progress.finish_parts())
+}
+
 // How far a run is.
 #[derive(Drop)]
 pub struct Progress {
@@ -66,13 +82,13 @@ pub struct Progress {
 
 impl Model for Progress {
     ghost use Rattle.std.specs.Prelude.{◌≡◌, reverse};
-    ghost use Rattle.fs_rauzy.specs.Runs.{event_number};
     ghost use Rattle.fs_rauzy.specs.RunsInPlace.{ProgressValue, checkpoint_in};
 
     ghost Value = { ProgressValue };
 
     ghost view = { λ x. record {
       d = x.state.d;
+      numbered = x.numbered;
       point = record {
         components = x.state.components;
         number = x.number;
@@ -84,14 +100,12 @@ impl Model for Progress {
         found = x.found.items;
       };
     } };
-
-    ghost invariant = { λ x. x.numbered ≡ event_number x.events.items };
 }
 
 impl Progress {
     // The beginning of a run.
     fn start(alloc: Global, state: State) -> Result<Progress, AllocError>
-        ensures start { IfOk result (λ progress. progress ≡ record { d = state.d; point = start_of state.components }) }
+        ensures start { IfOk result (λ progress. progress ≡ record { d = state.d; numbered = 0; point = start_of state.components }) }
         ensures state { IsState state }
         ensures radicand { IsRadicand state.d }
     {
@@ -114,11 +128,12 @@ impl Progress {
     // Makes the next event.
     fn go(&mut self, alloc: Global, budget: u32) -> Result<(), Stop>
         requires budget { budget ≤ 1000000 }
-        requires ready { CanGo self.old.d budget self.old.point }
+        requires ready { CanGo self.old.d budget self.old.numbered self.old.point }
         ensures goes { OnOk result (Goes self.old.d self.old.point self.new.point) }
+        ensures counts { OnOk result (Counts self.old self.new) }
         ensures within { OnOk result (self.new.point.steps ≤ budget) }
         ensures field { OnOk result (self.new.d ≡ self.old.d) }
-        ensures stops { IfErr result (StopsRun self.old.d budget self.old.point) }
+        ensures stops { IfErr result (StopsFrom self.old.d budget self.old.numbered self.old.point) }
     {
         if self.looped {
             return Ok(self.close_loop(alloc)?);
@@ -136,8 +151,9 @@ impl Progress {
         requires looped { self.old.point.looped ≡ true }
         requires open { IsOpen self.old.point.components }
         requires saved { IsSome self.old.point.saved }
-        requires few { event_number self.old.point.events + 1 < 2 ^ 32 }
+        requires few { self.old.numbered + 1 < 2 ^ 32 }
         ensures goes { OnOk result (Goes self.old.d self.old.point self.new.point) }
+        ensures counts { OnOk result (Counts self.old self.new) }
         ensures steps { OnOk result (self.new.point.steps ≡ self.old.point.steps) }
         ensures field { OnOk result (self.new.d ≡ self.old.d) }
     {
@@ -154,8 +170,9 @@ impl Progress {
     // Closes the current component.
     fn close(&mut self, alloc: Global, kind: Kind) -> Result<(), AllocError>
         requires open { IsOpen self.old.point.components }
-        requires few { event_number self.old.point.events + 1 < 2 ^ 32 }
+        requires few { self.old.numbered + 1 < 2 ^ 32 }
         ensures closes { OnOk result (ClosesTo kind self.old.point self.new.point) }
+        ensures counts { OnOk result (Counts self.old self.new) }
         ensures field { OnOk result (self.new.d ≡ self.old.d) }
     {
         let part = self.state.part(alloc, kind)?;
@@ -169,11 +186,12 @@ impl Progress {
     fn split(&mut self, alloc: Global, k: u32) -> Result<(), Stop>
         requires going { self.old.point.looped ≡ false }
         requires choice { IsChoice self.old.point.components (Choice.Split k) }
-        requires few { event_number self.old.point.events + 1 < 2 ^ 32 }
+        requires few { self.old.numbered + 1 < 2 ^ 32 }
         ensures goes { OnOk result (Goes self.old.d self.old.point self.new.point) }
+        ensures counts { OnOk result (Counts self.old self.new) }
         ensures steps { OnOk result (self.new.point.steps ≡ self.old.point.steps) }
         ensures field { OnOk result (self.new.d ≡ self.old.d) }
-        ensures stops { IfErr result (λ stop. (n : ℕ) → self.old.point.steps ≤ n → StopsRun self.old.d n self.old.point stop) }
+        ensures stops { IfErr result (λ stop. (n : ℕ) → self.old.point.steps ≤ n → StopsFrom self.old.d n self.old.numbered self.old.point stop) }
     {
         match self.state.split_at(k) {
             Ok(logged) => {
@@ -190,13 +208,14 @@ impl Progress {
         requires going { self.old.point.looped ≡ false }
         requires choice { IsChoice self.old.point.components Choice.Compare }
         requires saved { IsSome self.old.point.saved }
-        requires few { event_number self.old.point.events + 1 < 2 ^ 32 }
+        requires few { self.old.numbered + 1 < 2 ^ 32 }
         requires steps { self.old.point.steps + 2 < 2 ^ 32 }
         requires number { self.old.point.number ≤ self.old.point.steps }
         ensures goes { OnOk result (Goes self.old.d self.old.point self.new.point) }
+        ensures counts { OnOk result (Counts self.old self.new) }
         ensures steps { OnOk result (self.new.point.steps ≡ self.old.point.steps + 1) }
         ensures field { OnOk result (self.new.d ≡ self.old.d) }
-        ensures stops { IfErr result (λ stop. (n : ℕ) → self.old.point.steps < n → StopsRun self.old.d n self.old.point stop) }
+        ensures stops { IfErr result (λ stop. (n : ℕ) → self.old.point.steps < n → StopsFrom self.old.d n self.old.numbered self.old.point stop) }
     {
         match self.state.duel() {
             Ok(logged) => {
@@ -218,11 +237,12 @@ impl Progress {
     fn look_back(&mut self, alloc: Global, logged: Logged) -> Result<(), Stop>
         requires open { IsOpen self.old.point.components }
         requires saved { IsSome self.old.point.saved }
-        requires few { event_number self.old.point.events + 1 < 2 ^ 32 }
+        requires few { self.old.numbered + 1 < 2 ^ 32 }
         requires number { self.old.point.number + 2 < 2 ^ 32 }
         ensures looks { OnOk result (LooksBack self.old.d logged self.old.point self.new.point) }
+        ensures number { OnOk result (self.new.numbered ≡ counted logged.event self.old.numbered) }
         ensures field { OnOk result (self.new.d ≡ self.old.d) }
-        ensures stops { IfErr result (OverflowsWhere self.old.point (λ place. IsCompared self.old.d self.old.point (Err place))) }
+        ensures stops { IfErr result (OverflowsWhere self.old.numbered (λ place. IsCompared self.old.d self.old.point (Err place))) }
     {
         match &self.saved {
             Some(saved) => match self.state.same_shape(&saved.state) {
@@ -241,8 +261,8 @@ impl Progress {
 
     // Notes an event, and what it found. Each but a closing has a number.
     fn note(&mut self, logged: Logged) -> Result<(), AllocError>
-        requires { event_number self.old.point.events + 1 < 2 ^ 32 }
-        ensures { OnOk result (self.new ≡ record self.old { point = noted logged self.old.point }) }
+        requires { self.old.numbered + 1 < 2 ^ 32 }
+        ensures { OnOk result (self.new ≡ record self.old { numbered = counted logged.event self.old.numbered; point = noted logged self.old.point }) }
     {
         self.events.push(logged)?;
         if let Event::Closed = logged.event {
@@ -281,12 +301,19 @@ impl Progress {
 
     // The site of a place in the next event.
     fn stop(&self, place: Place) -> Stop
-        ensures { result ≡ Stop.Overflow (sites.Event (event_number self.now.point.events) place.0) }
+        ensures { result ≡ Stop.Overflow (sites.Event self.now.numbered place.0) }
     {
         Stop::Overflow(Site::Event {
             event: self.numbered,
             place: place.0,
         })
+    }
+
+    // The events so far are dropped.
+    fn forget_events(&mut self)
+        ensures { self.new ≡ record self.old { point = record self.old.point { events = [] } } }
+    {
+        self.events.clear();
     }
 
     // The run, where no component is open.
@@ -303,6 +330,24 @@ impl Progress {
         parts.reverse();
         Run {
             events: Sequence::from_vec(events),
+            parts: Sequence::from_vec(parts),
+            found: Sequence::from_vec(found),
+            steps,
+        }
+    }
+
+    // The run without its events.
+    fn finish_parts(self) -> Parts
+        ensures { result ≡ record { parts = self.point.parts; found = self.point.found; steps = self.point.steps } }
+    {
+        let Progress {
+            mut parts,
+            found,
+            steps,
+            ..
+        } = self;
+        parts.reverse();
+        Parts {
             parts: Sequence::from_vec(parts),
             found: Sequence::from_vec(found),
             steps,

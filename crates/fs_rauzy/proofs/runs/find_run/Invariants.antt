@@ -1,11 +1,11 @@
 -- The run leads from its start to where it is, within the budget.
-use Rattle.std.proofs.Common.{◌+◌, ◌-◌}
+use Rattle.std.proofs.Common.{◌+◌, ◌-◌, []}
 use Rattle.fs_rauzy.specs.Measures.{weight}
 use Rattle.fs_rauzy.proofs.RunsUnderWay.{IsUnderWay}
 use Rattle.fs_rauzy.proofs.runs.find_run.Given as goal
 
 abbrev pub invariant-loop-alloc : goal.invariant-loop-alloc
-invariant-loop-alloc l = IsUnderWay l.fn.state l.budget l.progress
+invariant-loop-alloc l = IsUnderWay l.fn.state l.budget [] l.progress
 
 abbrev pub decreases-loop-alloc : goal.decreases-loop-alloc
 decreases-loop-alloc l = (l.budget - l.progress.point.steps) + weight l.progress.point.components

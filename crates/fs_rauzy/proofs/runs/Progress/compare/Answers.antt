@@ -1,7 +1,7 @@
 -- A won comparison or a merge is made, or it stops.
-use Rattle.std.proofs.Common.{◌≡◌, ap, arith}
+use Rattle.std.proofs.Common.{◌≡◌, refl, ap, arith}
 use Rattle.fs_rauzy.specs.RunsInPlace.{ProgressValue}
-use Rattle.fs_rauzy.proofs.RunCalls.{on_ok, if_err, step_begins, win_goes, look_stops, merge_goes, comparison_stops}
+use Rattle.fs_rauzy.proofs.RunCalls.{on_ok, if_err, step_begins, win_goes, look_stops, merge_goes, comparison_stops, on_both, counts_begun, counts_looked}
 use Rattle.fs_rauzy.proofs.runs.Progress.compare.Goals as goal
 
 pub look_back-requires-clause-number : goal.look_back-requires-clause-number
@@ -29,3 +29,12 @@ returns-in_ok-begin-in_default-clause-goes c =
 
 pub returns-in-Err-clause-stops : goal.returns-in-Err-clause-stops
 returns-in-Err-clause-stops c = comparison_stops _ _ c.self.view_is c.in-Err.place c.stop.result c.requires.going c.requires.choice c.in-Err.ensures.stops c.stop.ensures
+
+pub returns-in-Won-clause-counts : goal.returns-in-Won-clause-counts
+returns-in-Won-clause-counts c =
+    on_both c.look_back.result (λ back numbered. counts_looked _ _ c.self.view_is c.in-Ok.logged c.duel.new.self.d _ c.look_back.new.self refl back numbered) c.look_back.ensures.looks c.look_back.ensures.number
+
+pub returns-in_ok-begin-in_default-clause-counts : goal.returns-in_ok-begin-in_default-clause-counts
+returns-in_ok-begin-in_default-clause-counts c =
+    counts_begun _ _ c.self.view_is c.in-Ok.logged c.note.new.self c.begin.new.self (ap (λ (v : ProgressValue). v.numbered) c.in_ok-note-in_default.ensures)
+    (ap (λ (v : ProgressValue). v.point.events) c.in_ok-note-in_default.ensures) c.in_ok-begin-in_default.ensures

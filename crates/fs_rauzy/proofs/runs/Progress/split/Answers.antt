@@ -1,7 +1,7 @@
 -- A split is made, or it stops.
 use Rattle.std.proofs.Common.{ap}
 use Rattle.fs_rauzy.specs.RunsInPlace.{ProgressValue}
-use Rattle.fs_rauzy.proofs.RunCalls.{split_goes, split_stops}
+use Rattle.fs_rauzy.proofs.RunCalls.{split_goes, split_stops, counts_begun}
 use Rattle.fs_rauzy.proofs.runs.Progress.split.Goals as goal
 
 pub returns-in_ok-begin-in-Ok-clause-goes : goal.returns-in_ok-begin-in-Ok-clause-goes
@@ -11,3 +11,8 @@ returns-in_ok-begin-in-Ok-clause-goes c =
 
 pub returns-in-Err-clause-stops : goal.returns-in-Err-clause-stops
 returns-in-Err-clause-stops c = split_stops _ _ c.self.view_is c.args.k c.in-Err.place c.stop.result c.requires.going c.requires.choice c.in-Err.ensures.stops c.stop.ensures
+
+pub returns-in_ok-begin-in-Ok-clause-counts : goal.returns-in_ok-begin-in-Ok-clause-counts
+returns-in_ok-begin-in-Ok-clause-counts c =
+    counts_begun _ _ c.self.view_is c.in-Ok.logged c.note.new.self c.begin.new.self (ap (λ (v : ProgressValue). v.numbered) c.in_ok-note-in-Ok.ensures)
+    (ap (λ (v : ProgressValue). v.point.events) c.in_ok-note-in-Ok.ensures) c.in_ok-begin-in-Ok.ensures
