@@ -20,12 +20,7 @@ use fs_rauzy::{Kind, Letter, Part};
 use std::alloc::{AllocError, Global};
 
 // The answer to `flow` in this direction, within a budget of steps.
-pub fn answer_flow(
-    alloc: Global,
-    surface: &Surface,
-    v: V2,
-    budget: u32,
-) -> Result<Answer, NoMemory>
+pub fn answer_flow(alloc: Global, surface: &Surface, v: V2, budget: u32) -> Result<Answer, NoMemory>
     requires direction { v ≢ vector_zero }
     requires most { budget ≤ 1000000 }
     ensures { IfOk result (λ answer. AnswersFlow surface.now budget v (string_bytes answer.text) answer.partial) }
@@ -170,7 +165,9 @@ fn cylinder_words(alloc: Global, den: i128, measured: &Measured) -> Result<Strin
     let square = print_number(alloc, measured.holonomy_square)?;
     let height = print_number(alloc, measured.height_square)?;
     let area = print_number(alloc, measured.area)?;
-    let words = format!(in alloc; "cylinder{base} holonomy {holonomy} square {square} height-square {height} area {area}")?;
+    let words = format!(in alloc;
+        "cylinder{base} holonomy {holonomy} square {square} height-square {height} area {area}"
+    )?;
     Ok(words)
 }
 
