@@ -5,6 +5,7 @@ ghost use Rattle.std.specs.Fmt.{decimal};
 ghost use Rattle.fs_fraction.specs.Fraction.{reduced};
 ghost use Rattle.fs_fraction.specs.Number.{spelling};
 ghost use Rattle.fs_plane.specs.Vector.{vector_zero};
+ghost use Rattle.fs_report.specs.DelaunayText.{vector_text};
 ghost use Rattle.fs_report.specs.Text.{line_of};
 ghost use Rattle.fs_report.specs.FlowText.{AnswersFlow, IsFlowStopText, flow_words, flow_line, connection_line, connection_lines, base_words, holonomy_text, cylinder_words, minimal_words, kind_words, part_line, part_lines, flow_text, steps_line};
 
@@ -28,7 +29,7 @@ pub fn answer_flow(alloc: Global, surface: &Surface, v: V2, budget: u32) -> Resu
     let words = flow_words(alloc, v)?;
     match find_flow(alloc, surface, v, budget) {
         Ok(flow) => Ok(Answer {
-            text: whole_text(alloc, &words, surface.den(), &flow)?,
+            text: whole_text(alloc, &words, surface, &flow)?,
             partial: false,
         }),
         Err(stop) => flow_stopped(alloc, &words, stop),
@@ -69,15 +70,19 @@ fn steps_line(alloc: Global, words: &str, steps: u32) -> Result<String, AllocErr
 }
 
 // The lines of a decomposition, after these words.
-fn whole_text(alloc: Global, words: &str, den: i128, flow: &Flow) -> Result<String, NoMemory>
-    requires { pos 0 <ℤ den }
-    ensures { IfOk result (λ text. string_bytes text ≡ flow_text (unsigned_abs den) words.now flow.now) }
+fn whole_text(
+    alloc: Global,
+    words: &str,
+    surface: &Surface,
+    flow: &Flow,
+) -> Result<String, NoMemory>
+    ensures { IfOk result (λ text. string_bytes text ≡ flow_text (unsigned_abs surface.now.den) words.now flow.now) }
 {
     let entries = flow.connections.as_slice();
     let parts = flow.parts.as_slice();
     let mut text = first_line(alloc, words, flow.steps, entries.len(), parts.len())?;
-    add_connections(alloc, &mut text, den, entries)?;
-    add_parts(alloc, &mut text, den, parts)?;
+    add_connections(alloc, &mut text, surface, entries)?;
+    add_parts(alloc, &mut text, surface, parts)?;
     Ok(text)
 }
 
@@ -98,14 +103,13 @@ fn first_line(
 fn add_connections(
     alloc: Global,
     text: &mut String,
-    den: i128,
+    surface: &Surface,
     entries: &[Listed],
 ) -> Result<(), NoMemory>
-    requires { pos 0 <ℤ den }
-    ensures { OnOk result (string_bytes text.new ≡ string_bytes text.old ++ connection_lines (unsigned_abs den) entries.now) }
+    ensures { OnOk result (string_bytes text.new ≡ string_bytes text.old ++ connection_lines (unsigned_abs surface.now.den) entries.now) }
 {
     for entry in entries {
-        add_connection(alloc, text, den, entry)?;
+        add_connection(alloc, text, surface, entry)?;
     }
     Ok(())
 }
@@ -114,54 +118,57 @@ fn add_connections(
 fn add_connection(
     alloc: Global,
     text: &mut String,
-    den: i128,
+    surface: &Surface,
     entry: &Listed,
 ) -> Result<(), NoMemory>
-    requires { pos 0 <ℤ den }
-    ensures { OnOk result (string_bytes text.new ≡ string_bytes text.old ++ connection_line (unsigned_abs den) entry.now) }
+    ensures { OnOk result (string_bytes text.new ≡ string_bytes text.old ++ connection_line (unsigned_abs surface.now.den) entry.now) }
 {
     let start = entry.start();
     let (polygon, side) = (start.polygon, start.side);
-    let v = unscaled_text(alloc, entry.v(), den)?;
+    let v = vector_text(alloc, surface, entry.v())?;
     write!(text, "connection {polygon}.{side} {v}\n")?;
     Ok(())
+}
+
+// x,y of a vector over the denominator of the surface.
+fn vector_text(alloc: Global, surface: &Surface, v: V2) -> Result<String, NoMemory>
+    ensures { IfOk result (λ text. string_bytes text ≡ vector_text (unsigned_abs surface.now.den) v) }
+{
+    unscaled_text(alloc, v, surface.den())
 }
 
 // Adds a line for each part.
 fn add_parts(
     alloc: Global,
     text: &mut String,
-    den: i128,
+    surface: &Surface,
     parts: &[Measured],
 ) -> Result<(), NoMemory>
-    requires { pos 0 <ℤ den }
-    ensures { OnOk result (string_bytes text.new ≡ string_bytes text.old ++ part_lines (unsigned_abs den) parts.now) }
+    ensures { OnOk result (string_bytes text.new ≡ string_bytes text.old ++ part_lines (unsigned_abs surface.now.den) parts.now) }
 {
     for part in parts {
-        let words = part_words(alloc, den, part)?;
+        let words = part_words(alloc, surface, part)?;
         write!(text, "{words}\n")?;
     }
     Ok(())
 }
 
 // The words of a part.
-fn part_words(alloc: Global, den: i128, measured: &Measured) -> Result<String, NoMemory>
-    requires { pos 0 <ℤ den }
-    ensures { IfOk result (λ words. string_bytes words ≡ kind_words (unsigned_abs den) measured.now measured.now.part.kind) }
+fn part_words(alloc: Global, surface: &Surface, measured: &Measured) -> Result<String, NoMemory>
+    ensures { IfOk result (λ words. string_bytes words ≡ kind_words (unsigned_abs surface.now.den) measured.now measured.now.part.kind) }
 {
     match measured.part.kind {
-        Kind::Cylinder => cylinder_words(alloc, den, measured),
-        Kind::Looped { from, to } => minimal_words(alloc, den, measured, from, to),
+        Kind::Cylinder => cylinder_words(alloc, surface, measured),
+        Kind::Looped { from, to } => minimal_words(alloc, surface, measured, from, to),
     }
 }
 
 // The words of a cylinder.
-fn cylinder_words(alloc: Global, den: i128, measured: &Measured) -> Result<String, NoMemory>
-    requires { pos 0 <ℤ den }
-    ensures { IfOk result (λ words. string_bytes words ≡ cylinder_words (unsigned_abs den) measured.now) }
+fn cylinder_words(alloc: Global, surface: &Surface, measured: &Measured) -> Result<String, NoMemory>
+    ensures { IfOk result (λ words. string_bytes words ≡ cylinder_words (unsigned_abs surface.now.den) measured.now) }
 {
-    let base = base_words(alloc, den, &measured.part)?;
-    let holonomy = holonomy_text(alloc, den, measured.part.letters.as_slice())?;
+    let base = base_words(alloc, surface, &measured.part)?;
+    let holonomy = holonomy_text(alloc, surface, measured.part.letters.as_slice())?;
     let square = print_number(alloc, measured.holonomy_square)?;
     let height = print_number(alloc, measured.height_square)?;
     let area = print_number(alloc, measured.area)?;
@@ -174,15 +181,14 @@ fn cylinder_words(alloc: Global, den: i128, measured: &Measured) -> Result<Strin
 // The words of a part with a loop.
 fn minimal_words(
     alloc: Global,
-    den: i128,
+    surface: &Surface,
     measured: &Measured,
     from: u32,
     to: u32,
 ) -> Result<String, NoMemory>
-    requires { pos 0 <ℤ den }
-    ensures { IfOk result (λ words. string_bytes words ≡ minimal_words (unsigned_abs den) measured.now from to) }
+    ensures { IfOk result (λ words. string_bytes words ≡ minimal_words (unsigned_abs surface.now.den) measured.now from to) }
 {
-    let base = base_words(alloc, den, &measured.part)?;
+    let base = base_words(alloc, surface, &measured.part)?;
     let letters = measured.part.letters.len();
     let area = print_number(alloc, measured.area)?;
     let words = format!(in alloc; "minimal{base} letters {letters} loop {from} {to} area {area}")?;
@@ -190,18 +196,24 @@ fn minimal_words(
 }
 
 // The words of the base of a part.
-fn base_words(alloc: Global, den: i128, part: &Part) -> Result<String, NoMemory>
-    requires { pos 0 <ℤ den }
-    ensures { IfOk result (λ words. string_bytes words ≡ base_words (unsigned_abs den) part.now) }
+fn base_words(alloc: Global, surface: &Surface, part: &Part) -> Result<String, NoMemory>
+    ensures { IfOk result (λ words. string_bytes words ≡ base_words (unsigned_abs surface.now.den) part.now) }
 {
-    let base = unscaled_number(alloc, part.base, den)?;
-    let width = unscaled_number(alloc, part.width, den)?;
+    let base = unscaled_number(alloc, surface, part.base)?;
+    let width = unscaled_number(alloc, surface, part.width)?;
     let words = format!(in alloc; " base {base} width {width}")?;
     Ok(words)
 }
 
-// A number over the denominator.
-fn unscaled_number(alloc: Global, x: Elem, den: i128) -> Result<String, NoMemory>
+// A number over the denominator of the surface.
+fn unscaled_number(alloc: Global, surface: &Surface, x: Elem) -> Result<String, NoMemory>
+    ensures { IfOk result (λ text. string_bytes text ≡ spelling (reduced x (unsigned_abs surface.now.den))) }
+{
+    quotient_text(alloc, x, surface.den())
+}
+
+// A number over another one.
+fn quotient_text(alloc: Global, x: Elem, den: i128) -> Result<String, NoMemory>
     requires { pos 0 <ℤ den }
     ensures { IfOk result (λ text. string_bytes text ≡ spelling (reduced x (unsigned_abs den))) }
 {
@@ -209,12 +221,11 @@ fn unscaled_number(alloc: Global, x: Elem, den: i128) -> Result<String, NoMemory
 }
 
 // The unscaled return vector of the first letter, which is the only one of a cylinder.
-fn holonomy_text(alloc: Global, den: i128, letters: &[Letter]) -> Result<String, NoMemory>
-    requires { pos 0 <ℤ den }
-    ensures { IfOk result (λ text. string_bytes text ≡ holonomy_text (unsigned_abs den) letters.now) }
+fn holonomy_text(alloc: Global, surface: &Surface, letters: &[Letter]) -> Result<String, NoMemory>
+    ensures { IfOk result (λ text. string_bytes text ≡ holonomy_text (unsigned_abs surface.now.den) letters.now) }
 {
     match letters.first() {
-        Some(letter) => unscaled_text(alloc, letter.back, den),
+        Some(letter) => vector_text(alloc, surface, letter.back),
         None => Ok(String::new(alloc)),
     }
 }

@@ -6,5 +6,5 @@ use Rattle.fs_report.proofs.DelaunayTexts.{items_written}
 use Rattle.fs_report.proofs.flow.add_connections.Goals as goal
 
 pub loop-entry-preserved : goal.loop-entry-preserved
-loop-entry-preserved c = items_written (connection_line (unsigned_abs c.args.den)) c.args.entries.now c.loop-entry.entry-index _ _ _ _ c.loop-entry-test.true c.loop-entry.invariant
-    (c.in_ok-add_connection.ensures ∙ ap (λ (entry : Listed). string_bytes c.loop-entry.text ++ connection_line (unsigned_abs c.args.den) entry) c.entry-item.is)
+loop-entry-preserved c = items_written (connection_line (unsigned_abs c.args.surface.now.den)) c.args.entries.now c.loop-entry.entry-index _ _ _ _ c.loop-entry-test.true c.loop-entry.invariant
+    (c.in_ok-add_connection.ensures ∙ ap (λ (entry : Listed). string_bytes c.loop-entry.text ++ connection_line (unsigned_abs c.args.surface.now.den) entry) c.entry-item.is)

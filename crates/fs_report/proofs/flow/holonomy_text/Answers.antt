@@ -6,7 +6,7 @@ use Rattle.fs_report.proofs.flow.holonomy_text.Goals as goal
 
 pub returns-in-Some : goal.returns-in-Some
 returns-in-Some c =
-    IfOk-weaker c.unscaled_text.result _ _ (λ text e. e ∙ first_spelled (unsigned_abs c.args.den) c.args.letters.now c.in-Some.letter.now c.in-Some.ensures.value) c.unscaled_text.ensures
+    IfOk-weaker c.vector_text.result _ _ (λ text e. e ∙ first_spelled (unsigned_abs c.args.surface.now.den) c.args.letters.now c.in-Some.letter.now c.in-Some.ensures.value) c.vector_text.ensures
 
 pub returns-in-None : goal.returns-in-None
-returns-in-None c = c.new.ensures ∙ none_spelled (unsigned_abs c.args.den) c.args.letters.now c.in-None.ensures.value
+returns-in-None c = c.new.ensures.bytes ∙ none_spelled (unsigned_abs c.args.surface.now.den) c.args.letters.now c.in-None.ensures.value

@@ -4,7 +4,7 @@ use Rattle.std.proofs.lemmas.Result.{IfOk-weaker}
 use Rattle.fs_fraction.specs.Fraction.{reduced}
 use Rattle.fs_fraction.specs.Number.{spelling}
 use Rattle.fs_gluing.proofs.Base.ReadBack.{read_back}
-use Rattle.fs_report.proofs.flow.unscaled_number.Goals as goal
+use Rattle.fs_report.proofs.flow.quotient_text.Goals as goal
 
 pub returns : goal.returns
 returns c =
