@@ -1,0 +1,14 @@
+pub mod Ratios
+pub mod Frames
+pub mod ComputedMatrices
+pub mod EqualMatrices
+pub mod ProductLists
+pub mod ProductsUnique
+pub mod TableTests
+pub mod UnfoldingUnique
+pub mod TooMany
+pub mod ListedFrames
+pub mod Partners
+pub mod GlueTests
+pub mod Connected
+pub mod NoFault

@@ -1,0 +1,5 @@
+pub mod Matrices
+pub mod Products
+pub mod Copies
+pub mod Unfolding
+pub mod Tables
