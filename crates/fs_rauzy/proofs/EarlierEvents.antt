@@ -1,5 +1,5 @@
 -- A run goes on in the same way after any earlier events.
-use Rattle.std.proofs.Common.{◌≡◌, ℕ, Bool, true, false, Result, Ok, List, [], ◌∷◌, ◌++◌, subst, append_assoc}
+use Rattle.std.proofs.Common.{ℕ, Bool, true, false, Result, Ok, List, [], ◌∷◌, ◌++◌, subst, append_assoc}
 use Rattle.fs_quadratic.specs.Ring as ring
 use Rattle.fs_quadratic.specs.declared.steps.Place.{Place}
 use Rattle.fs_gluing.specs.Exchanges.{Component}

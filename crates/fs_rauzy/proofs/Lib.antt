@@ -15,6 +15,7 @@ pub mod CylinderSides
 pub mod DividedBases
 pub mod DividedComponents
 mod EarlierEvents
+mod EqualParts
 mod EventNumbers
 pub mod EventReturns
 pub mod EventRows
@@ -63,6 +64,7 @@ mod SplitInPlace
 pub mod SplitPlaces
 mod SplitSteps
 pub mod StepExists
+mod SumsInRoom
 pub mod TakenAfter
 pub mod TouchedKept
 pub mod TowersKept

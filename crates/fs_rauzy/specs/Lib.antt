@@ -5,6 +5,7 @@ pub mod FirstReturns
 pub mod Loops
 pub mod Measures
 pub mod Pairings
+pub mod RoomForSums
 pub mod Rooms
 pub mod Rule
 pub mod Runs

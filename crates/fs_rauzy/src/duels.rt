@@ -1,6 +1,7 @@
 // The comparison of the last letters of the current component: the longer one wins, equally long ones merge.
 
-ghost use Rattle.std.specs.Prelude.{◌≡◌, ◌≢◌, ◌<◌, ◌≤◌, IsTrue, true, false, IfOk, IfErr, OnOk, OnErr, length, slice_set, slice_index_or};
+ghost use Rattle.std.specs.Prelude.{◌≡◌, ◌≢◌, ◌↔◌, ◌<◌, ◌≤◌, IsTrue, true, false, IfOk, IfErr, OnOk, OnErr, length, slice_set, slice_index_or};
+ghost use Rattle.std.specs.declared.cmp.Ordering.{Ordering};
 ghost use Rattle.fs_quadratic.specs.Ring.{IsLess};
 ghost use Rattle.fs_gluing.specs.Exchanges.{Letter};
 ghost use Rattle.fs_rauzy.specs.declared.events.Event.{Event};
@@ -16,6 +17,7 @@ use crate::parts::Logged;
 use crate::rows::{Extent, find_name, move_last_behind, put_last_at};
 use crate::states::State;
 use fs_plane::Place;
+use fs_quadratic::{Elem, Field};
 use std::cmp::Ordering;
 
 impl State {
@@ -32,7 +34,7 @@ impl State {
         let y = self.bottom[self.bottom.len() - 1];
         let above = self.letters[x as usize].length;
         let below = self.letters[y as usize].length;
-        match self.field.cmp(above, below) {
+        match compare_lengths(self.field, above, below) {
             Ordering::Greater => self.win_above(x, y),
             Ordering::Less => self.win_below(x, y),
             Ordering::Equal => self.merge(x, y),
@@ -120,6 +122,18 @@ impl State {
             event: Event::Merged(numbers.found),
             length,
         })
+    }
+}
+
+// How x compares with y. Where their r parts are equal, the rational parts tell it.
+#[inline(always)]
+fn compare_lengths(field: Field, x: Elem, y: Elem) -> Ordering
+    ensures greater { result ≡ Ordering.Greater ↔ IsLess field.d y x }
+    ensures less { result ≡ Ordering.Less ↔ IsLess field.d x y }
+{
+    match x.q().cmp(&y.q()) {
+        Ordering::Equal => x.p().cmp(&y.p()),
+        _ => field.cmp(x, y),
     }
 }
 

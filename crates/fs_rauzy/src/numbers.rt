@@ -1,8 +1,11 @@
 // The numbers of events, each with its place.
 
-ghost use Rattle.std.specs.Prelude.{◌≡◌, ◌+◌, ◌<◌, ◌≤◌, ◌^◌, length};
+ghost use Rattle.std.specs.Prelude.{◌≡◌, ◌+◌, ◌<◌, ◌≤◌, ◌^◌, IsTrue, length, unsigned_abs};
 ghost use Rattle.std.specs.List.{AllByRecursion};
+ghost use Rattle.fs_quadratic.specs.Ring.{sub};
+ghost use Rattle.fs_plane.specs.Vector.{vector_add};
 ghost use Rattle.fs_iet.specs.ExchangeValue.{most_letters};
+ghost use Rattle.fs_rauzy.specs.RoomForSums.{HasRoom, VectorHasRoom};
 ghost use Rattle.fs_rauzy.specs.Rule as rule;
 ghost use Rattle.fs_rauzy.specs.Rule.{checked_connection, checked_won, checked_merged, checked_prefix, checked_lengths, checked_split};
 ghost use Rattle.fs_rauzy.specs.StatesInPlace.{letters_at};
@@ -71,9 +74,40 @@ impl Model for SplitNumbers {
     ghost inverse = { λ n. record { sum = n.sum; rest = n.rest; base = n.base; found = n.found } };
 }
 
-// The numbers of a won comparison, where the loser's end with this vector moves.
-#[tactic(auto, unfolding(crate::specs::Rule::checked_won))]
+// Sums and differences of parts below it in size are within the width.
+const ROOM: i128 = 1 << 125;
+
+// The numbers of a won comparison, where the loser's end with this vector moves. They take no checks where all parts have room.
+#[inline(always)]
 pub fn find_won(
+    winner: &Interval,
+    loser: &Interval,
+    total: Elem,
+    vector: V2,
+) -> Result<WonNumbers, Place>
+    ensures { result ≡ checked_won winner.now loser.now total vector }
+{
+    if has_room(winner.length)
+        && has_room(loser.length)
+        && has_room(total)
+        && vector_has_room(winner.back)
+        && vector_has_room(loser.back)
+        && vector_has_room(vector)
+    {
+        return Ok(WonNumbers {
+            length: difference_in_room(winner.length, loser.length),
+            total: difference_in_room(total, loser.length),
+            back: sum_in_room(loser.back, winner.back),
+            vector: sum_in_room(vector, winner.back),
+        });
+    }
+    find_won_checked(winner, loser, total, vector)
+}
+
+// The same, by checked computations.
+#[inline(never)]
+#[tactic(auto, unfolding(crate::specs::Rule::checked_won))]
+fn find_won_checked(
     winner: &Interval,
     loser: &Interval,
     total: Elem,
@@ -91,6 +125,53 @@ pub fn find_won(
         back,
         vector: moved,
     })
+}
+
+// Whether a part is at most 2^125 in size.
+#[inline(always)]
+fn part_has_room(part: i128) -> bool
+    ensures { IsTrue result → unsigned_abs part ≤ 2 ^ 125 }
+{
+    -ROOM <= part && part < ROOM
+}
+
+// Whether both parts are.
+#[inline(always)]
+fn has_room(x: Elem) -> bool
+    ensures { IsTrue result → HasRoom x }
+{
+    part_has_room(x.p()) && part_has_room(x.q())
+}
+
+// Whether those of both coordinates are.
+#[inline(always)]
+fn vector_has_room(a: V2) -> bool
+    ensures { IsTrue result → VectorHasRoom a }
+{
+    has_room(a.x) && has_room(a.y)
+}
+
+// The difference of two numbers with room.
+#[inline(always)]
+fn difference_in_room(x: Elem, y: Elem) -> Elem
+    requires left { HasRoom x }
+    requires right { HasRoom y }
+    ensures { result ≡ sub x y }
+{
+    x.sub_fitting(y)
+}
+
+// The sum of two vectors with room.
+#[inline(always)]
+fn sum_in_room(a: V2, b: V2) -> V2
+    requires left { VectorHasRoom a }
+    requires right { VectorHasRoom b }
+    ensures { result ≡ vector_add a b }
+{
+    V2 {
+        x: a.x.add_fitting(b.x),
+        y: a.y.add_fitting(b.y),
+    }
 }
 
 // The numbers of a merge of x, last in the top row, and y, last in the bottom row.

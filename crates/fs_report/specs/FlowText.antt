@@ -2,7 +2,6 @@
 use Rattle.std.specs.Prelude.{◌≡◌, ℕ, Bool, true, false, Ok, Err, List, [], ◌∷◌, ◌++◌, length, codes, unsigned_abs}
 use Rattle.std.specs.Fmt.{decimal}
 use Rattle.std.specs.List.{flat_map}
-use Rattle.fs_quadratic.specs.Ring.{Quadratic}
 use Rattle.fs_fraction.specs.Fraction.{reduced}
 use Rattle.fs_fraction.specs.Number.{spelling}
 use Rattle.fs_plane.specs.declared.listing.Listed.{Listed}

@@ -1,5 +1,5 @@
 -- Stage after stage.
-use Rattle.std.proofs.Common.{Ok, Err, refl, ◌∙◌, arith}
+use Rattle.std.proofs.Common.{Ok, Err, refl, arith}
 use Rattle.fs_lists.proofs.Results.{at_exit}
 use Rattle.fs_components.specs.Flows.{EndsFlow, ReturnsFlow}
 use Rattle.fs_components.proofs.ExchangeStates.{given_sizes}

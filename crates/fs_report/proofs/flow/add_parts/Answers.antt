@@ -1,7 +1,7 @@
 use Rattle.std.proofs.Common.{ℕ, List, ◌++◌, ap, ◌∙◌, string_bytes}
 use Rattle.std.specs.Prelude.{unsigned_abs}
 use Rattle.fs_components.specs.declared.flow.Measured.{Measured}
-use Rattle.fs_report.specs.FlowText.{kind_words, part_line}
+use Rattle.fs_report.specs.FlowText.{part_line}
 use Rattle.fs_report.specs.Text.{line_of}
 use Rattle.fs_report.proofs.DelaunayTexts.{items_written}
 use Rattle.fs_report.proofs.flow.add_parts.Goals as goal

@@ -1,4 +1,3 @@
-use Rattle.std.proofs.Common.{refl}
 use Rattle.fs_report.proofs.FlowTexts.{minimal_spelled}
 use Rattle.fs_report.proofs.flow.minimal_words.Goals as goal
 

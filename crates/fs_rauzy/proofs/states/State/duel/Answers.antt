@@ -10,7 +10,7 @@ use Rattle.fs_rauzy.specs.Steps.{AtCurrent, CanCompare}
 use Rattle.fs_rauzy.proofs.EventNumbers.{equal_lengths}
 use Rattle.fs_rauzy.proofs.LastReads.{rows_some, last_inside, last_letters_read}
 use Rattle.fs_rauzy.proofs.states.State.duel.Goals as goal
-use Rattle.fs_rauzy.proofs.states.State.duel.Goals.{After-len, After-index-y, After-cmp}
+use Rattle.fs_rauzy.proofs.states.State.duel.Goals.{After-len, After-index-y, After-compare_lengths}
 
 -- the last letters differ, as the state keeps them
 can : (c : After-len) → AtCurrent CanCompare (opened c.self.inside.letters.items c.self.inside.top.items c.self.inside.bottom.items c.self.inside.extents.items)
@@ -60,10 +60,10 @@ named c h R r =
     c.index-x.ensures c.index-y.ensures (R c.self.inside.field.d) r)
 
 -- the lengths that are compared are theirs
-above : (c : After-cmp) → c.index-x.result.now < length c.self.inside.letters.items → c.behind-self.inside.length ≡ (get_or c.self.inside.letters.items c.index-x.result.now no_letter).length
+above : (c : After-compare_lengths) → c.index-x.result.now < length c.self.inside.letters.items → c.behind-self.inside.length ≡ (get_or c.self.inside.letters.items c.index-x.result.now no_letter).length
 above c l = ap (λ (k : Letter). k.length) (c.behind-self.view_is ∙ c.index.ensures ∙ get_or_default c.self.inside.letters.items c.index-x.result.now c.index.result.now no_letter l)
 
-below : (c : After-cmp) → c.index-y.result.now < length c.self.inside.letters.items → c.behind-self-2.inside.length ≡ (get_or c.self.inside.letters.items c.index-y.result.now no_letter).length
+below : (c : After-compare_lengths) → c.index-y.result.now < length c.self.inside.letters.items → c.behind-self-2.inside.length ≡ (get_or c.self.inside.letters.items c.index-y.result.now no_letter).length
 below c l = ap (λ (k : Letter). k.length) (c.behind-self-2.view_is ∙ c.index-2.ensures ∙ get_or_default c.self.inside.letters.items c.index-y.result.now c.index-2.result.now no_letter l)
 
 pub win_above-requires : goal.win_above-requires
@@ -73,8 +73,8 @@ win_above-requires c =
     let there = inside at.After-index-y h in
     record {
       last = named at.After-index-y h (λ d a b. IsLess d b.length a.length)
-          (subst (λ (p : Quadratic). IsLess c.self.inside.field.d p (get_or c.self.inside.letters.items c.index-x.result.now no_letter).length) (below at.After-cmp there.1)
-          (subst (λ (q : Quadratic). IsLess c.self.inside.field.d c.behind-self-2.inside.length q) (above at.After-cmp there.0) (c.cmp.ensures.greater.0 c.in-Greater.is)));
+          (subst (λ (p : Quadratic). IsLess c.self.inside.field.d p (get_or c.self.inside.letters.items c.index-x.result.now no_letter).length) (below at.After-compare_lengths there.1)
+          (subst (λ (q : Quadratic). IsLess c.self.inside.field.d c.behind-self-2.inside.length q) (above at.After-compare_lengths there.0) (c.compare_lengths.ensures.greater.0 c.in-Greater.is)));
     }
 
 pub win_below-requires : goal.win_below-requires
@@ -84,8 +84,8 @@ win_below-requires c =
     let there = inside at.After-index-y h in
     record {
       last = named at.After-index-y h (λ d a b. IsLess d a.length b.length)
-          (subst (λ (p : Quadratic). IsLess c.self.inside.field.d p (get_or c.self.inside.letters.items c.index-y.result.now no_letter).length) (above at.After-cmp there.0)
-          (subst (λ (q : Quadratic). IsLess c.self.inside.field.d c.behind-self.inside.length q) (below at.After-cmp there.1) (c.cmp.ensures.less.0 c.in-Less.is)));
+          (subst (λ (p : Quadratic). IsLess c.self.inside.field.d p (get_or c.self.inside.letters.items c.index-y.result.now no_letter).length) (above at.After-compare_lengths there.0)
+          (subst (λ (q : Quadratic). IsLess c.self.inside.field.d c.behind-self.inside.length q) (below at.After-compare_lengths there.1) (c.compare_lengths.ensures.less.0 c.in-Less.is)));
     }
 
 pub merge-requires : goal.merge-requires
@@ -95,7 +95,7 @@ merge-requires c =
     let there = inside at.After-index-y h in
     record {
       last = named at.After-index-y h (λ d a b. a.length ≡ b.length)
-          (sym (above at.After-cmp there.0)
-          ∙ equal_lengths (field_order c.self.inside.field.radicand) c.behind-self.inside.length c.behind-self-2.inside.length c.cmp.result c.in-Equal.is c.cmp.ensures.greater c.cmp.ensures.less
-          ∙ below at.After-cmp there.1);
+          (sym (above at.After-compare_lengths there.0)
+          ∙ equal_lengths (field_order c.self.inside.field.radicand) c.behind-self.inside.length c.behind-self-2.inside.length c.compare_lengths.result c.in-Equal.is c.compare_lengths.ensures.greater c.compare_lengths.ensures.less
+          ∙ below at.After-compare_lengths there.1);
     }
