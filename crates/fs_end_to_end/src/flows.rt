@@ -101,9 +101,13 @@ fn surfaces(rt: HostRuntime) {
 }
 
 // Budgets, of which the flow along (1,√2) on the unit square takes 7, and the one along (3,2) 3. Each command has its own.
-static BUDGETS: [(&str, &str, &str); 4] = [
+static BUDGETS: [(&str, &str, &str); 9] = [
     ("1", "flow 1,1r\n", "flow 1,1r undecided steps 1\n"),
+    ("2", "flow 1,1r\n", "flow 1,1r undecided steps 2\n"),
     ("3", "flow 1,1r\n", "flow 1,1r undecided steps 3\n"),
+    ("4", "flow 1,1r\n", "flow 1,1r undecided steps 4\n"),
+    ("5", "flow 1,1r\n", "flow 1,1r undecided steps 5\n"),
+    ("6", "flow 1,1r\n", "flow 1,1r undecided steps 6\n"),
     (
         "2",
         "flow 3,2\nflow 1,0\nflow 03,2\n",
@@ -111,6 +115,11 @@ static BUDGETS: [(&str, &str, &str); 4] = [
     ),
     (
         "7",
+        "flow 1,1r\n",
+        "flow 1,1r steps 7 connections 0 components 1\nminimal base 0 width 10-7r letters 2 loop 3 7 area 1\n",
+    ),
+    (
+        "8",
         "flow 1,1r\n",
         "flow 1,1r steps 7 connections 0 components 1\nminimal base 0 width 10-7r letters 2 loop 3 7 area 1\n",
     ),

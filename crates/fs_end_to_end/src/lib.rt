@@ -4,6 +4,8 @@
 #[cfg(test)]
 mod delaunay;
 #[cfg(test)]
+mod directions;
+#[cfg(test)]
 mod flows;
 #[cfg(test)]
 mod jobs;
