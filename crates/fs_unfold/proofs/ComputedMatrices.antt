@@ -1,4 +1,4 @@
--- What is computed without overflow is the exact value. A library for crates to come.
+-- What is computed without overflow is the exact value.
 use Rattle.std.proofs.Common.{◌≡◌, ℕ, ◌+◌, Result, Ok, Err, List, [], ◌∷◌, refl, sym, ap, ◌∙◌}
 use Rattle.fs_lists.proofs.Results.{ok_equal}
 use Rattle.fs_quadratic.specs.Checked.{◌>>=◌}
@@ -79,7 +79,7 @@ image_is d m p q e =
 -- ---- reflections
 
 -- a reflection
-pub mirror_is : (d : ℕ) (p : Point) (r : Mirror) → checked_mirror d p ≡ Ok r → r ≡ mirror d p
+mirror_is : (d : ℕ) (p : Point) (r : Mirror) → checked_mirror d p ≡ Ok r → r ≡ mirror d p
 unfolding checked_mirror mirror
 mirror_is d p r e =
     let xx = steps_of (checked_fraction_product d 1 p.x p.x) _ r e in

@@ -17,15 +17,16 @@ Decides-is_same_fraction x y = Decides-like _
     (λ e. (ap (λ (z : Fraction). z.num) e, ap (λ (z : Fraction). z.den) e))
     (Decides-and _ _ (Decides-is_same_number x.num y.num) (Decides-eqb x.den y.den))
 
+-- whether all entries of two matrices are equal
 abbrev is_same_matrix : Matrix → Matrix → Bool
-is_same_matrix m n = (is_same_fraction m.a n.a && is_same_fraction m.b n.b) && (is_same_fraction m.c n.c && is_same_fraction m.e n.e)
+is_same_matrix m n = is_same_fraction m.a n.a && (is_same_fraction m.b n.b && (is_same_fraction m.c n.c && is_same_fraction m.e n.e))
 
 -- whether two matrices are equal
 pub Decides-is_same_matrix : (m n : Matrix) → Decides (is_same_matrix m n) (m ≡ n)
 Decides-is_same_matrix m n = Decides-like _
-    (λ e. λ i. record { a = e.0.0 i; b = e.0.1 i; c = e.1.0 i; e = e.1.1 i })
-    (λ e. ((ap (λ (x : Matrix). x.a) e, ap (λ (x : Matrix). x.b) e), (ap (λ (x : Matrix). x.c) e, ap (λ (x : Matrix). x.e) e)))
-    (Decides-and _ _ (Decides-and _ _ (Decides-is_same_fraction m.a n.a) (Decides-is_same_fraction m.b n.b)) (Decides-and _ _ (Decides-is_same_fraction m.c n.c) (Decides-is_same_fraction m.e n.e)))
+    (λ e. λ i. record { a = e.0 i; b = e.1.0 i; c = e.1.1.0 i; e = e.1.1.1 i })
+    (λ e. (ap (λ (x : Matrix). x.a) e, (ap (λ (x : Matrix). x.b) e, (ap (λ (x : Matrix). x.c) e, ap (λ (x : Matrix). x.e) e))))
+    (Decides-and _ _ (Decides-is_same_fraction m.a n.a) (Decides-and _ _ (Decides-is_same_fraction m.b n.b) (Decides-and _ _ (Decides-is_same_fraction m.c n.c) (Decides-is_same_fraction m.e n.e))))
 
 -- whether it is in the list
 abbrev pub is_listed : Matrix → List Matrix → Bool

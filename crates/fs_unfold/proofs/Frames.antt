@@ -26,10 +26,10 @@ use Rattle.fs_unfold.proofs.Ratios.{IsRatio, IsCanonical, ratio_of_value, ratio_
 -- ---- frames
 
 -- the numbers of the second row over k: the first one turned by a right angle, the other way where the orientation is turned
-abbrev pub second_x : Bool → PlaneVector → Quadratic
+abbrev second_x : Bool → PlaneVector → Quadratic
 second_x turned f = if turned then f.y else neg f.y
 
-abbrev pub second_y : Bool → PlaneVector → Quadratic
+abbrev second_y : Bool → PlaneVector → Quadratic
 second_y turned f = if turned then neg f.x else f.x
 
 -- the matrix has this frame
@@ -54,11 +54,11 @@ pub record IsSide (den : ℕ) (p : Point) (side : PlaneVector) : Type 0 where
   pub nonzero : side ≢ vector_zero
 
 -- (X² - Y², 2XY) of a vector (X,Y): its direction has twice the angle
-abbrev pub doubled : ℕ → PlaneVector → PlaneVector
+abbrev doubled : ℕ → PlaneVector → PlaneVector
 doubled d v = record { x = add (mul d v.x v.x) (neg (mul d v.y v.y)); y = add (mul d v.x v.y) (mul d v.x v.y) }
 
 -- the frame of a product with a reflection
-abbrev pub reflected : ℕ → PlaneVector → PlaneVector → PlaneVector
+abbrev reflected : ℕ → PlaneVector → PlaneVector → PlaneVector
 reflected d f v = record { x = dot d f (doubled d v); y = cross d f (doubled d v) }
 
 module _ {d : ℕ} (no_square : IsNoSquare d) where
@@ -84,7 +84,7 @@ module _ {d : ℕ} (no_square : IsNoSquare d) where
     square_not_zero = product_not_zero no_square D D D_not_zero D_not_zero
 
     -- the squared length isn't 0
-    pub length_positive : IsPositive d (norm d v)
+    length_positive : IsPositive d (norm d v)
     length_positive = directions.norm_positive (quadratic_order no_square) v is.nonzero
 
     length_not_zero : norm d v ≢ nil
@@ -163,19 +163,19 @@ module _ {d : ℕ} (no_square : IsNoSquare d) where
             (h ∙ ap (mul d (whole y.den)) ((quadratic_ring d).mul_comm n (mul d D D)))
 
     -- the entries of a reflection
-    pub mirror_u : IsRatio d (mirror d p).u (doubled d v).x (norm d v)
+    mirror_u : IsRatio d (mirror d p).u (doubled d v).x (norm d v)
     unfolding mirror
     mirror_u = over_length less (doubled d v).x less_canonical less_ratio
 
-    pub mirror_w : IsRatio d (mirror d p).w (doubled d v).y (norm d v)
+    mirror_w : IsRatio d (mirror d p).w (doubled d v).y (norm d v)
     unfolding mirror
     mirror_w = over_length twice (doubled d v).y twice_canonical twice_ratio
 
-    pub mirror_u_canonical : IsCanonical (mirror d p).u
+    mirror_u_canonical : IsCanonical (mirror d p).u
     unfolding mirror
     mirror_u_canonical = canonical_product d less inverse less_canonical.positive inverse_canonical.positive
 
-    pub mirror_w_canonical : IsCanonical (mirror d p).w
+    mirror_w_canonical : IsCanonical (mirror d p).w
     unfolding mirror
     mirror_w_canonical = canonical_product d twice inverse twice_canonical.positive inverse_canonical.positive
 
@@ -306,14 +306,14 @@ module _ {d : ℕ} (no_square : IsNoSquare d) where
       no_length f k (not_zero h.positive) h.length (opposite_product f.x g.x k l (not_zero i.positive) ax ex_back) (opposite_product f.y g.y k l (not_zero i.positive) by cy)
 
   -- two frames of one matrix turn the orientation alike
-  pub frame_turns : (m : Matrix) (f g : PlaneVector) (k l : Quadratic) (s t : Bool) → HasFrame d m f k s → HasFrame d m g l t → s ≡ t
+  frame_turns : (m : Matrix) (f g : PlaneVector) (k l : Quadratic) (s t : Bool) → HasFrame d m f k s → HasFrame d m g l t → s ≡ t
   frame_turns m f g k l true true h i = refl
   frame_turns m f g k l false false h i = refl
   frame_turns m f g k l false true h i = absurd (one_turned m f g k l h i)
   frame_turns m f g k l true false h i = absurd (one_turned m g f l k i h)
 
   -- matrices are equal where their frames point the same way
-  pub frame_equal : (m n : Matrix) (f g : PlaneVector) (k l : Quadratic) (t : Bool) → HasFrame d m f k t → HasFrame d n g l t → mul d f.x l ≡ mul d g.x k → mul d f.y l ≡ mul d g.y k → m ≡ n
+  frame_equal : (m n : Matrix) (f g : PlaneVector) (k l : Quadratic) (t : Bool) → HasFrame d m f k t → HasFrame d n g l t → mul d f.x l ≡ mul d g.x k → mul d f.y l ≡ mul d g.y k → m ≡ n
   frame_equal m n f g k l t h i ex ey =
       let some = not_zero h.positive in
       let other = not_zero i.positive in

@@ -17,7 +17,7 @@ use Rattle.fs_unfold.specs.Copies.{AreLines, no_side, earlier, later}
 
 module _ {X : Type 0} where
   -- what is in a list is in it by std's word
-  pub contains_of_in : (x : X) (xs : List X) → IsIn x xs → Contains xs x
+  contains_of_in : (x : X) (xs : List X) → IsIn x xs → Contains xs x
   contains_of_in x [] h = absurd h
   contains_of_in x (y ∷ xs) (inl e) = (0, (let l : 0 < suc (length xs) = omega arith in l), sym e)
   contains_of_in x (y ∷ xs) (inr h) = let c = contains_of_in x xs h in (suc c.0, (let l = c.1 in omega (arith, l)), c.2)
@@ -40,12 +40,12 @@ two_on g (k ∷ glues) (inl e) = inr (inl (ap (λ (x : Glue). x.two) e))
 two_on g (k ∷ glues) (inr h) = inr (inr (two_on g glues h))
 
 -- a line glues its sides
-pub pair_of_line : (g : Glue) (glues : List Glue) → IsIn g glues → IsPairOf glues g.one g.two
+pair_of_line : (g : Glue) (glues : List Glue) → IsIn g glues → IsPairOf glues g.one g.two
 pair_of_line g [] h = absurd h
 pair_of_line g (k ∷ glues) (inl e) = inl (ap (λ (x : Glue). x.one) (sym e), ap (λ (x : Glue). x.two) (sym e))
 pair_of_line g (k ∷ glues) (inr h) = inr (inr (pair_of_line g glues h))
 
-pub pair_of_line_back : (g : Glue) (glues : List Glue) → IsIn g glues → IsPairOf glues g.two g.one
+pair_of_line_back : (g : Glue) (glues : List Glue) → IsIn g glues → IsPairOf glues g.two g.one
 pair_of_line_back g [] h = absurd h
 pair_of_line_back g (k ∷ glues) (inl e) = inr (inl (ap (λ (x : Glue). x.two) (sym e), ap (λ (x : Glue). x.one) (sym e)))
 pair_of_line_back g (k ∷ glues) (inr h) = inr (inr (pair_of_line_back g glues h))

@@ -32,7 +32,7 @@ module _ (d : ℕ) (table : List Point) (is : IsTable d table) where
   mirror_side r h = in_map_cases (mirror d) r table h
 
   -- a framed matrix times a reflection
-  pub framed_times : (m : Matrix) (r : Mirror) → IsFramed d m → IsIn r (mirrors d table) → IsFramed d (times d m r)
+  framed_times : (m : Matrix) (r : Mirror) → IsFramed d m → IsIn r (mirrors d table) → IsFramed d (times d m r)
   framed_times m r h r_in =
       let side = mirror_side r r_in in
       let p = side.0 in

@@ -1,5 +1,5 @@
--- The shape of the copies has no fault, where they are polygons. A library for crates to come.
-use Rattle.std.proofs.Common.{◌≡◌, ◌⊎◌, ℕ, zero, suc, ℤ, pos, ◌+◌, ◌/◌, ◌<◌, false, IsSome, Option, Some, None, List, [], ◌∷◌, ◌++◌, length, map, Contains, refl, sym, ap, ◌∙◌, subst, inl, inr, arith}
+-- The shape of the copies has no fault, where they are polygons.
+use Rattle.std.proofs.Common.{◌≡◌, ◌⊎◌, ℕ, zero, suc, ◌+◌, ◌<◌, false, IsSome, Option, Some, None, List, [], ◌∷◌, ◌++◌, length, map, Contains, refl, sym, ap, ◌∙◌, subst, inl, inr, arith}
 use Rattle.std.proofs.lemmas.List.{length-map}
 use Rattle.std.proofs.lemmas.Option.{slice_get-map}
 use Rattle.std.specs.List.{AllByRecursion, slice_get, flat_map, range_with_len}
@@ -8,12 +8,8 @@ use Rattle.fs_lists.specs.Members.{IsIn}
 use Rattle.fs_lists.proofs.All.{All-append, All-map}
 use Rattle.fs_lists.proofs.Items.{inside_of_some}
 use Rattle.fs_lists.proofs.Members.{All-member}
-use Rattle.fs_ring.proofs.Integers.{integer_ring}
 use Rattle.fs_ring.proofs.RingLaws as ring
-use Rattle.fs_ring.proofs.Solver.{identity, negative, ◌⊗◌, ◌≐◌}
-use Rattle.fs_quadratic.specs.Ring.{Quadratic, neg}
-use Rattle.fs_quadratic.proofs.Laws.{quadratic_eq, quadratic_ring}
-use Rattle.fs_fraction.specs.Fraction.{scale}
+use Rattle.fs_quadratic.proofs.Laws.{quadratic_ring}
 use Rattle.fs_plane.specs.declared.corners.Corner.{Corner}
 use Rattle.fs_plane.specs.Vector.{PlaneVector, vector_neg, IsAllowedCorner}
 use Rattle.fs_gluing.specs.declared.faults.Fault.{Fault}
@@ -36,6 +32,7 @@ use Rattle.fs_unfold.specs.Tables.{IsTable}
 use Rattle.fs_unfold.specs.Matrices.{mirror, times}
 use Rattle.fs_unfold.specs.Products.{mirrors, AreProducts}
 use Rattle.fs_unfold.specs.Unfolding.{HasNoFault}
+use Rattle.fs_unfold.proofs.CopyImages.{scaled_opposite}
 use Rattle.fs_unfold.proofs.Connected.{has_side, copies_reached}
 use Rattle.fs_unfold.proofs.GlueTests.{lines_pass, sides_glued}
 use Rattle.fs_unfold.proofs.Partners.{copy_length, pair_symmetric, pair_apart, pair_exists, pair_vectors}
@@ -43,13 +40,6 @@ use Rattle.fs_unfold.proofs.ProductLists.{get_inside, listed_once}
 use Rattle.fs_unfold.proofs.UnfoldingUnique.{pair_unique}
 
 -- ---- scaled copies
-
-scale_neg : (k : ℕ) (x : Quadratic) → scale k (neg x) ≡ neg (scale k x)
-scale_neg k x = let by = λ (z : ℤ). identity integer_ring (pos k ∷ z ∷ []) (λ k z. k ⊗ negative z ≐ negative (k ⊗ z)) refl in quadratic_eq (by x.p) (by x.q)
-
--- an opposite vector, scaled
-scaled_opposite : (den : ℕ) (p : Point) → scaled_vector den (opposite p) ≡ vector_neg (scaled_vector den p)
-scaled_opposite den p = λ i. record { x = scale_neg (den / p.x.den) p.x.num i; y = scale_neg (den / p.y.den) p.y.num i }
 
 twice_opposite : (a : PlaneVector) → vector_neg (vector_neg a) ≡ a
 twice_opposite a = λ i. record { x = ring.neg_neg (quadratic_ring 0) a.x i; y = ring.neg_neg (quadratic_ring 0) a.y i }
@@ -142,7 +132,8 @@ module _ (d : ℕ) (table : List Point) (is : IsTable d table) (list : List Matr
   at_copy c m q at there =
       ap (option_and_then (λ polygon. slice_get polygon c.side)) (slice_get-map (copy d table) list c.polygon ∙ ap (option_map (copy d table)) at) ∙ there
 
-  inside : (c : Corner) → HasSide Ps c → (c.polygon < length list) × (c.side < length table)
+  -- a side of a copy is below the bounds
+  pub inside : (c : Corner) → HasSide Ps c → (c.polygon < length list) × (c.side < length table)
   inside c h = by (slice_get list c.polygon) refl (slice_get-map (copy d table) list c.polygon)
     where
       by : (o : Option Matrix) → slice_get list c.polygon ≡ o → slice_get Ps c.polygon ≡ option_map (copy d table) (slice_get list c.polygon) → (c.polygon < length list) × (c.side < length table)

@@ -1,7 +1,6 @@
 -- Which sides of the copies are pairs: each side is in one pair, with a side of another copy, which has the opposite vector.
 use Rattle.std.proofs.Common.{◌≡◌, ◌≢◌, ◌⊎◌, ℕ, zero, suc, ◌+◌, ◌-◌, ◌<◌, Bool, true, false, if◌then◌else◌, not, Some, List, [], ◌∷◌, ◌++◌, length, map, reverse, refl, sym, ap, ◌∙◌, subst, inl, inr, arith}
 use Rattle.std.proofs.lemmas.Bool.{cases_lt}
-use Rattle.std.proofs.lemmas.Grind.{reverse_onto}
 use Rattle.std.proofs.lemmas.List.{length-map, length-reverse}
 use Rattle.std.proofs.lemmas.Option.{slice_get-map}
 use Rattle.std.specs.List.{slice_get}
@@ -19,6 +18,7 @@ use Rattle.fs_unfold.specs.Matrices.{mirror, times, image}
 use Rattle.fs_unfold.specs.Products.{mirrors, AreProducts}
 use Rattle.fs_unfold.proofs.Frames.{times_turns, times_differs, times_back, image_kept}
 use Rattle.fs_unfold.proofs.ListedFrames.{IsFramed, listed_framed}
+use Rattle.fs_unfold.proofs.ReversedLists.{reverse_cons}
 use Rattle.fs_unfold.proofs.ProductLists.{get_in, in_get, get_inside, same_some, products_closed}
 use Rattle.fs_unfold.proofs.TableTests.{den_of, table_side}
 
@@ -29,7 +29,7 @@ module _ {X : Type 0} where
   get_last [] ys x = refl
   get_last (z ∷ xs) ys x = get_last xs ys x
 
-  pub get_before : (xs ys : List X) (k : ℕ) → k < length xs → slice_get (xs ++ ys) k ≡ slice_get xs k
+  get_before : (xs ys : List X) (k : ℕ) → k < length xs → slice_get (xs ++ ys) k ≡ slice_get xs k
   get_before [] ys k l = absurd (let none : k < 0 = l in omega (arith, none))
   get_before (x ∷ xs) ys zero l = refl
   get_before (x ∷ xs) ys (suc k) l = get_before xs ys k (let m : suc k < suc (length xs) = l in omega (arith, m))
@@ -39,11 +39,8 @@ module _ {X : Type 0} where
   some_inside (x ∷ xs) zero l = (x, refl)
   some_inside (x ∷ xs) (suc k) l = some_inside xs k (let m : suc k < suc (length xs) = l in omega (arith, m))
 
-  reverse_cons : (x : X) (xs : List X) → reverse (x ∷ xs) ≡ reverse xs ++ x ∷ []
-  reverse_cons x xs = reverse_onto xs x []
-
   -- an item of the reversed list
-  pub get_reverse : (xs : List X) (k : ℕ) → k < length xs → slice_get (reverse xs) k ≡ slice_get xs (length xs - (k + 1))
+  get_reverse : (xs : List X) (k : ℕ) → k < length xs → slice_get (reverse xs) k ≡ slice_get xs (length xs - (k + 1))
   get_reverse [] k l = absurd (let none : k < 0 = l in omega (arith, none))
   get_reverse (x ∷ xs) k l = ap (λ ys. slice_get ys k) (reverse_cons x xs) ∙ elim (cases_lt k (length xs)) [
     | inl m ↦
@@ -79,7 +76,7 @@ module _ (d : ℕ) (table : List Point) where
       by true = omega (arith, l)
       by false = l
 
-  pub number_twice : (m : Matrix) (i : ℕ) → i < n → side_number d n m (side_number d n m i) ≡ i
+  number_twice : (m : Matrix) (i : ℕ) → i < n → side_number d n m (side_number d n m i) ≡ i
   number_twice m i l = by (is_turned d m)
     where
       by : (t : Bool) → (if t then n - ((if t then n - (i + 1) else i) + 1) else (if t then n - (i + 1) else i)) ≡ i
@@ -87,10 +84,10 @@ module _ (d : ℕ) (table : List Point) where
       by false = refl
 
   -- the vector that side i of the table becomes
-  abbrev pub side_of_copy : Matrix → Point → Point
+  abbrev side_of_copy : Matrix → Point → Point
   side_of_copy m p = if is_turned d m then opposite (image d m p) else image d m p
 
-  pub copy_side : (m : Matrix) (i : ℕ) (p : Point) → slice_get table i ≡ Some p → slice_get (copy d table m) (side_number d n m i) ≡ Some (side_of_copy m p)
+  copy_side : (m : Matrix) (i : ℕ) (p : Point) → slice_get table i ≡ Some p → slice_get (copy d table m) (side_number d n m i) ≡ Some (side_of_copy m p)
   copy_side m i p at = by (is_turned d m)
     where
       l : i < n

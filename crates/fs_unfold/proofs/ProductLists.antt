@@ -1,4 +1,4 @@
--- The list of products: each item is a product of reflections, none is in it twice, and it holds all of them once it is whole. A library for crates to come.
+-- The list of products: each item is a product of reflections, none is in it twice, and it holds all of them once it is whole.
 use Rattle.std.proofs.Common.{◌≡◌, ◌⊎◌, ◌↔◌, ℕ, zero, suc, ◌+◌, ◌<◌, ◌≤◌, IsTrue, Option, Some, List, [], ◌∷◌, ◌++◌, length, refl, sym, ap, ◌∙◌, subst, inl, inr, arith, length-append}
 use Rattle.std.proofs.lemmas.Bool.{cases_lt}
 use Rattle.std.specs.List.{AllByRecursion, slice_get}
@@ -38,7 +38,8 @@ module _ {X : Type 0} where
   in_get x (y ∷ xs) (inl e) = (0, ap Some (sym e))
   in_get x (y ∷ xs) (inr h) = let r = in_get x xs h in (suc r.0, r.1)
 
-  earlier_inside : (list : List X) (h : ℕ) (n m : X) → h < length list → slice_get (list ++ n ∷ []) h ≡ Some m → slice_get list h ≡ Some m
+  -- an item before the last one
+  pub earlier_inside : (list : List X) (h : ℕ) (n m : X) → h < length list → slice_get (list ++ n ∷ []) h ≡ Some m → slice_get list h ≡ Some m
   earlier_inside [] h n m l e = absurd (let none : h < 0 = l in omega (arith, none))
   earlier_inside (x ∷ xs) zero n m l e = e
   earlier_inside (x ∷ xs) (suc h) n m l e = earlier_inside xs h n m (let below : suc h < suc (length xs) = l in omega (arith, below)) e
@@ -100,7 +101,7 @@ module _ {d : ℕ} {rs : List Mirror} where
   listed_few _ _ _ (next_product list g before) = listed_few list g (length rs) before
 
   -- the identity is its first item
-  pub listed_identity : (list : List Matrix) (g i : ℕ) → AreListed d rs list g i → slice_get list 0 ≡ Some identity
+  listed_identity : (list : List Matrix) (g i : ℕ) → AreListed d rs list g i → slice_get list 0 ≡ Some identity
   listed_identity _ _ _ first = refl
   listed_identity _ _ _ (known list g i m n r before at_g at_i made there) = listed_identity list g i before
   listed_identity _ _ _ (added list g i m n r before at_g at_i made new room) = get_append list (n ∷ []) 0 identity (listed_identity list g i before)

@@ -13,7 +13,7 @@ use Rattle.fs_unfold.specs.Unfolding.{IsNextProduct}
 use Rattle.fs_unfold.proofs.ProductLists.{same_some, get_inside, up_to}
 
 -- a place before another one, in the order in which products are multiplied
-abbrev pub IsBefore : ℕ → ℕ → ℕ → ℕ → Type 0
+abbrev IsBefore : ℕ → ℕ → ℕ → ℕ → Type 0
 IsBefore h j g i = (h < g) ⊎ ((h ≡ g) × (j < i))
 
 -- of two places one is before the other, or they are the same
@@ -45,7 +45,7 @@ module _ (d : ℕ) (rs : List Mirror) where
   same_product m n r s k l e f p q = ok_equal k l (sym p ∙ (λ a. checked_times d (e a) (f a)) ∙ q)
 
   -- one list at each place
-  pub list_unique : (xs ys : List Matrix) (g i h j : ℕ) → AreListed d rs xs g i → AreListed d rs ys h j → g ≡ h → i ≡ j → xs ≡ ys
+  list_unique : (xs ys : List Matrix) (g i h j : ℕ) → AreListed d rs xs g i → AreListed d rs ys h j → g ≡ h → i ≡ j → xs ≡ ys
   list_unique _ _ _ _ _ _ first first p q = refl
   list_unique _ _ _ _ _ _ first (known ys h j m n r before a b made there) p q = absurd (omega (arith, q))
   list_unique _ _ _ _ _ _ first (added ys h j m n r before a b made new room) p q = absurd (omega (arith, q))

@@ -1,4 +1,4 @@
--- Fractions by what they are in the ring: one number over another one, which isn't 0. A library for crates to come.
+-- Fractions by what they are in the ring: one number over another one, which isn't 0.
 use Rattle.std.proofs.Common.{◌≡◌, ◌≢◌, ℕ, ℤ, pos, ◌*ℤ◌, ◌*◌, ◌/◌, ◌<◌, [], ◌∷◌, refl, sym, ap, ◌∙◌, subst, arith}
 use Rattle.std.proofs.Math.Nat.{mul-pos, dvd-mul_right}
 use Rattle.std.proofs.lemmas.Nat.Gcd.{dvd_antisymm}
@@ -16,7 +16,7 @@ use Rattle.fs_fraction.specs.Divisor.{gcd, content}
 use Rattle.fs_fraction.specs.Fraction.{Fraction, IsReduced, HasValue, scale}
 use Rattle.fs_fraction.proofs.Divisors.{gcd-is, first_multiple, second_multiple, third_multiple, greatest, multiple_positive, quotient_positive}
 use Rattle.fs_fraction.proofs.Inverses.{inverse_den_positive}
-use Rattle.fs_fraction.proofs.Lowest.{reduced-positive, reduced-coprime, size-negated}
+use Rattle.fs_fraction.proofs.Lowest.{reduced-positive, reduced-coprime}
 use Rattle.fs_fraction.proofs.Values.{fraction_eq, gcd-scale, whole, whole-times, whole-positive, sum-value, product-value, reciprocal-value}
 
 -- the fraction is n over k
@@ -26,9 +26,6 @@ IsRatio d x n k = mul d k x.num ≡ mul d (whole x.den) n
 -- the same by values
 pub ratio_of_value : (d : ℕ) (x : Fraction) (n : Quadratic) (den : ℕ) → HasValue x n den → IsRatio d x n (whole den)
 ratio_of_value d x n den h = whole-times d den x.num ∙ h ∙ sym (whole-times d x.den n)
-
-pub value_of_ratio : (d : ℕ) (x : Fraction) (n : Quadratic) (den : ℕ) → IsRatio d x n (whole den) → HasValue x n den
-value_of_ratio d x n den h = sym (whole-times d den x.num) ∙ h ∙ whole-times d x.den n
 
 -- a product of multiples
 pub whole-product : (d m n : ℕ) (x : Quadratic) → mul d (mul d (whole m) (whole n)) x ≡ scale (m * n) x
@@ -43,11 +40,6 @@ whole-product d m n x = ap (λ w. mul d w x) (whole-times d m (whole n) ∙ mult
 pub ratio_negated : (d : ℕ) (x : Fraction) (n k : Quadratic) → IsRatio d x n k → IsRatio d (negated x) (neg n) k
 ratio_negated d x n k r =
     derived (quadratic_ring d) (x.num ∷ whole x.den ∷ n ∷ k ∷ []) (λ a X n k. k ⊗ negative a ≐ X ⊗ negative n from (negative (numeral 1), k ⊗ a ≐ X ⊗ n) ∷ []) refl (r, tt)
-
--- both numbers times a third
-pub ratio_expand : (d : ℕ) (x : Fraction) (c n k : Quadratic) → IsRatio d x n k → IsRatio d x (mul d c n) (mul d c k)
-ratio_expand d x c n k r =
-    derived (quadratic_ring d) (x.num ∷ whole x.den ∷ n ∷ k ∷ c ∷ []) (λ a X n k c. (c ⊗ k) ⊗ a ≐ X ⊗ (c ⊗ n) from (c, k ⊗ a ≐ X ⊗ n) ∷ []) refl (r, tt)
 
 module _ {d : ℕ} (no_square : IsNoSquare d) where
   whole_not_zero : (n : ℕ) → 0 < n → whole n ≢ nil
@@ -92,7 +84,7 @@ module _ {d : ℕ} (no_square : IsNoSquare d) where
   -- ---- operations
 
   -- the sum
-  pub ratio_sum : (x y : Fraction) (n k m l : Quadratic) → 0 < x.den → 0 < y.den → IsRatio d x n k → IsRatio d y m l → IsRatio d (sum x y) (add (mul d n l) (mul d m k)) (mul d k l)
+  ratio_sum : (x y : Fraction) (n k m l : Quadratic) → 0 < x.den → 0 < y.den → IsRatio d x n k → IsRatio d y m l → IsRatio d (sum x y) (add (mul d n l) (mul d m k)) (mul d k l)
   ratio_sum x y n k m l up vp r t =
       sum_over (sum x y).num x.num y.num (whole x.den) (whole y.den) (whole (sum x y).den) n k m l (whole_not_zero x.den up) (whole_not_zero y.den vp) (sum_crossed (sum x y) x y (sum-value x y)) r t
 
@@ -143,12 +135,6 @@ module _ {d : ℕ} (no_square : IsNoSquare d) where
 pub record IsCanonical (x : Fraction) : Type 0 where
   pub positive : 0 < x.den
   pub reduced : IsReduced x.num x.den
-
-pub canonical_negated : (x : Fraction) → IsCanonical x → IsCanonical (negated x)
-canonical_negated x c = record {
-  positive = c.positive;
-  reduced = λ k p q n. c.reduced k (subst (λ m. k ∣ m) (size-negated x.num.p) p) (subst (λ m. k ∣ m) (size-negated x.num.q) q) n;
-}
 
 pub canonical_sum : (x y : Fraction) → 0 < x.den → 0 < y.den → IsCanonical (sum x y)
 canonical_sum x y up vp =

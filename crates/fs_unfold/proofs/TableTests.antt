@@ -66,16 +66,19 @@ three_sides d table passes = subst (λ n. 3 ≤ n) (length-map table (scaled_vec
 
 -- ---- its denominator
 
-has_value : (x : Fraction) (den : ℕ) → x.den ∣ den → HasValue x (scale (den / x.den) x.num) den
+-- a fraction over a multiple of its denominator
+pub has_value : (x : Fraction) (den : ℕ) → x.den ∣ den → HasValue x (scale (den / x.den) x.num) den
 has_value x den h =
     let e = mul-div_cancel' x.den h in
     let part = λ (z : ℤ). ap (λ n. pos n *ℤ z) (sym e) ∙ identity integer_ring (pos x.den ∷ pos (den / x.den) ∷ z ∷ []) (λ m k z. (m ⊗ k) ⊗ z ≐ m ⊗ (k ⊗ z)) refl in
     quadratic_eq (part x.num.p) (part x.num.q)
 
-abbrev HasDens : Point → Type 0
+-- both denominators are above 0
+abbrev pub HasDens : Point → Type 0
 HasDens p = (0 < p.x.den) × (0 < p.y.den)
 
-common_positive : (m : ℕ) (sides : List NumberedSide) → 0 < m → AllByRecursion (λ s. HasDens s.vector) sides → 0 < common_from m sides
+-- the common multiple of such denominators is above 0
+pub common_positive : (m : ℕ) (sides : List NumberedSide) → 0 < m → AllByRecursion (λ s. HasDens s.vector) sides → 0 < common_from m sides
 common_positive m [] up all = up
 common_positive m (s ∷ sides) up all =
     common_positive (common_multiple (common_multiple m s.vector.x.den) s.vector.y.den) sides

@@ -1,4 +1,4 @@
--- Where a product is to be added to a full list there are more products than may be. A library for crates to come.
+-- Where a product is to be added to a full list there are more products than may be.
 use Rattle.std.proofs.Common.{◌≡◌, ℕ, ◌+◌, IsTrue, Ok, List, [], ◌∷◌, ◌++◌, length, sym, ap, ◌∙◌, subst, inl, inr, length-append}
 use Rattle.std.specs.List.{AllByRecursion}
 use Rattle.fs_lists.specs.Members.{IsIn}

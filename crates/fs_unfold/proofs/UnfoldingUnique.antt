@@ -1,4 +1,4 @@
--- The unfolding of a table ends in one way at most. A library for crates to come.
+-- The unfolding of a table ends in one way at most.
 use Rattle.std.proofs.Common.{◌≡◌, ℕ, zero, suc, ◌+◌, ◌-◌, ◌<◌, Bool, true, false, if◌then◌else◌, Result, Ok, Err, Some, List, [], ◌∷◌, ◌++◌, length, map, refl, sym, ap, ◌∙◌, subst, arith}
 use Rattle.std.specs.List.{AllByRecursion, slice_get}
 use Rattle.fs_lists.specs.First.{IsFirstWithout}
@@ -146,7 +146,7 @@ module _ (d : ℕ) where
     one_polygon c b e f same p q = pair_unique b e f (subst (λ x. Paired x e) same p) q
 
     -- so there is one list of lines
-    pub lines_unique : (sides others : List Corner) (xs ys : List Glue) → AreLines Paired sides xs → AreLines Paired others ys → sides ≡ others → xs ≡ ys
+    lines_unique : (sides others : List Corner) (xs ys : List Glue) → AreLines Paired sides xs → AreLines Paired others ys → sides ≡ others → xs ≡ ys
     lines_unique _ _ _ _ no_side no_side s = refl
     lines_unique _ _ _ _ no_side (earlier b f others ys q m h) s = absurd cc
     lines_unique _ _ _ _ no_side (later b f others ys q m h) s = absurd cc

@@ -3,3 +3,4 @@ pub mod Products
 pub mod Copies
 pub mod Unfolding
 pub mod Tables
+pub mod InPlace

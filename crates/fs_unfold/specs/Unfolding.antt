@@ -1,4 +1,4 @@
--- The unfolding of a table: what it means, and how its computation ends. The call that unfolds a table is to come.
+-- The unfolding of a table: what it means, and how its computation ends.
 use Rattle.std.specs.Prelude.{◌≡◌, ◌↔◌, ℕ, ◌*◌, false, Result, Ok, Err, Some, List, [], ◌∷◌, ◌++◌, length, map}
 use Rattle.std.specs.List.{AllByRecursion, slice_get}
 use Rattle.fs_lists.specs.First.{IsFirstWithout}

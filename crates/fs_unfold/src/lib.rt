@@ -1,8 +1,11 @@
-// Billiard tables, unfolded: the reflections in the sides of a table, and their products.
+// Billiard tables, unfolded into the shapes of surfaces.
 #![tactic(auto)]
 
+mod copies;
+mod glue_lines;
 mod matrices;
 mod products;
+mod unfolding;
 
-pub use matrices::{Matrix, Mirror, find_image, find_mirror, find_times};
-pub use products::TableCopy;
+pub use fs_gluing::BuildStop as UnfoldStop;
+pub use unfolding::unfold;
