@@ -1,5 +1,5 @@
 -- What a call wrote, from what the calls in it wrote.
-use Rattle.std.proofs.Common.{◌≡◌, ◌≢◌, ℕ, ◌+◌, ◌<◌, ◌≤◌, ◌⊎◌, ◌↔◌, Bool, false, List, [], ◌++◌, Option, None, Some, IfSome, Err, length, refl, sym, ap, ◌∙◌, subst, inl, inr, arith, append-nil, length-append}
+use Rattle.std.proofs.Common.{◌≡◌, ◌≢◌, ℕ, ◌+◌, ◌<◌, ◌≤◌, ◌⊎◌, ◌↔◌, Bool, false, List, [], ◌∷◌, ◌++◌, Option, None, Some, IfSome, Ok, Err, length, refl, sym, ap, ◌∙◌, subst, inl, inr, arith, append-nil, length-append}
 use Rattle.std.specs.Io.KnownBytes.{Consumes, Appends, IsAtEnd}
 use Rattle.std.specs.List.{AllByRecursion}
 use Rattle.std.proofs.KnownBytes.{Appends-nil}
@@ -9,13 +9,12 @@ use Rattle.fs_gluing.specs.declared.faults.Fault.{Fault}
 use Rattle.fs_gluing.specs.declared.faults.Fault.TheVariants.{NoSuchSide, TooLong}
 use Rattle.fs_gluing.specs.declared.faults.BuildStop.{BuildStop}
 use Rattle.fs_gluing.specs.declared.faults.BuildStop.TheVariants as stops
-use Rattle.fs_gluing.specs.FirstFault.{Test, PassesOf, tests_of, IsFirstFailure, IsBuildResult, stop_of}
+use Rattle.fs_gluing.specs.FirstFault.{Test, IsFirstFailure, IsBuildResult, stop_of}
+use Rattle.fs_gluing.specs.declared.shapes.Point.{Point}
 use Rattle.fs_gluing.specs.declared.shapes.Shape.{Shape}
-use Rattle.fs_gluing.specs.Shape.{HasShape}
+use Rattle.fs_unfold.specs.Unfolding.{EndsUnfolding, ReturnsUnfolding}
 use Rattle.fs_gluing.specs.Surface.{GluedPolygons, IsSurface}
 use Rattle.fs_job.specs.declared.job.Command.{Command}
-use Rattle.fs_job.specs.declared.job.Job.{Job}
-use Rattle.fs_job.specs.Reading.{job_draft, form_shape}
 use Rattle.fs_job.specs.declared.job.JobStop.{JobStop}
 use Rattle.fs_job.specs.declared.job.JobStop.TheVariants as job_stops
 use Rattle.fs_job.specs.Draft.{Draft}
@@ -25,18 +24,13 @@ use Rattle.fs_report.specs.Text.{fault_line}
 use Rattle.fs_report.proofs.AnswersUnique.{answer_unique}
 use Rattle.fs_cli.specs.declared.outcome.Status.{Status}
 use Rattle.fs_cli.specs.declared.outcome.Status.TheVariants as status
-use Rattle.fs_cli.specs.Answer.{AnswersJob, AnswersCommands, no_such_corner, each_answered, stated_line, IsAnswered, too_long, no_job, not_built, answered, BeginsEach, draft_shape, stop_line, stop_status, AnswersAll, status_of, IsWhole, IsBroken}
+use Rattle.fs_cli.specs.Answer.{AnswersJob, AnswersCommands, no_such_corner, each_answered, stated_line, IsAnswered, too_long, no_job, not_unfolded, answered, DescribesShape, AnswersShape, not_built, built, BeginsEach, stop_line, stop_status, AnswersAll, status_of, IsWhole, IsBroken}
 use Rattle.fs_cli.specs.Words.{GiveBudget}
 use Rattle.fs_cli.specs.Writing.{Writes, IsThisText, HasStatus}
 use Rattle.fs_cli.proofs.CommandTexts.{commands_unique, only_each}
 use Rattle.fs_cli.proofs.WordBudgets.{budget_unique}
-use Rattle.fs_cli.proofs.AnsweredUnique.{JobLaw, only_long, only_fault, only_stop, only_texts}
-
--- the shape of a job without straight corners is that of its draft
-pub shape_of_draft : (job : Job) → (form_shape job.form).straight ≡ false → form_shape job.form ≡ draft_shape (job_draft job)
-shape_of_draft job unmarked =
-    let marked : Bool → Shape = λ mark. record { polygons = (form_shape job.form).polygons; glues = (form_shape job.form).glues; straight = mark } in
-    ap marked unmarked
+use Rattle.fs_cli.proofs.AnsweredUnique.{JobLaw, only_long, only_fault, only_stop, only_shape}
+use Rattle.fs_cli.proofs.ShapeAnswers.{only_failure, only_built}
 
 -- where the words give a budget, the status isn't `Usage`
 pub no_usage : {words : List (List ℕ)} {budget : ℕ} (result : Status) → GiveBudget words budget → result ≢ status.Usage → (result ≡ status.Usage) ↔ ((n : ℕ) → ¬ GiveBudget words n)
@@ -105,14 +99,36 @@ module _ (result : Status) (held held' : Option (List ℕ)) (faults faults' : �
   writes_just N text meant holds only =
       writes_meant (IsThisText text meant) N (λ output r just. subst (λ (t : List ℕ). N t r) (sym just.0) (subst (N text) (sym just.1) holds)) only
 
+  -- where memory ran out nothing was written, which begins each text
+  writes_no_memory : (N : List ℕ → Status → Type 0) → Writes (IsThisText [] status.NoMemory) result held held' faults faults' → Writes N result held held' faults faults'
+  writes_no_memory N w = record {
+    kinds = w.kinds;
+    whole = λ whole. absurd (subst IsWhole ((w.whole whole).1.1) whole);
+    broken = λ broken.
+        let wrote = w.broken broken in
+        let begins = wrote.1 [] status.NoMemory (refl, refl) in
+        ([], (λ output r means. (output, refl)), subst (Appends held held') (nothing wrote.0 begins.0 begins.1) wrote.2);
+    write_fault = w.write_fault;
+    kept = w.kept;
+    never_falls = w.never_falls;
+  }
+    where
+      nothing : (prefix rest : List ℕ) → [] ≡ prefix ++ rest → prefix ≡ []
+      nothing [] rest e = refl
+      nothing (b ∷ prefix) rest e = absurd cc
+
   -- an equal text
   pub writes_along : (text text' : List ℕ) (meant : Status) → text ≡ text' → Writes (IsThisText text meant) result held held' faults faults' → Writes (IsThisText text' meant) result held held' faults faults'
   writes_along text text' meant e = subst (λ (t : List ℕ). Writes (IsThisText t meant) result held held' faults faults') e
 
+  -- the line of an equal stop
+  pub writes_equal_stop : (s t : BuildStop) → t ≡ s → Writes (IsThisText (stop_line s) (stop_status s)) result held held' faults faults' → Writes (IsThisText (stop_line t) (stop_status t)) result held held' faults faults'
+  writes_equal_stop s t e = subst (λ (x : BuildStop). Writes (IsThisText (stop_line x) (stop_status x)) result held held' faults faults') (sym e)
+
   -- equal commands
-  pub writes_commands : (s : GluedPolygons) (budget : ℕ) (commands commands' : List Command) → commands ≡ commands'
-      → Writes (AnswersCommands s budget commands) result held held' faults faults' → Writes (AnswersCommands s budget commands') result held held' faults faults'
-  writes_commands s budget commands commands' e = subst (λ (cs : List Command). Writes (AnswersCommands s budget cs) result held held' faults faults') e
+  pub writes_commands : (d : ℕ) (shape : Shape) (budget : ℕ) (commands commands' : List Command) → commands ≡ commands'
+      → Writes (AnswersShape d shape budget commands) result held held' faults faults' → Writes (AnswersShape d shape budget commands') result held held' faults faults'
+  writes_commands d shape budget commands commands' e = subst (λ (cs : List Command). Writes (AnswersShape d shape budget cs) result held held' faults faults') e
 
   -- commands of which one names a corner that isn't there
   pub writes_missing : (s : GluedPolygons) (budget : ℕ) (commands : List Command) (command : Command) (line : ℕ) → IsSurface s → s.straight ≡ false → IsFirstWithout (HasCorner s) commands command → line ≡ stated_line command
@@ -140,6 +156,28 @@ module _ (result : Status) (held held' : Option (List ℕ)) (faults faults' : �
       let one = answer_unique s budget command output text means.0 partial surface strict means.1 answers in
       (one.0, means.2 ∙ (ap status_of one.1 ∙ sym is)))
 
+  module _ (d : ℕ) (shape : Shape) (budget : ℕ) (commands : List Command) where
+    -- a shape that isn't built
+    pub writes_failure : (stop : BuildStop) → IsBuildResult d shape (Err stop) → Writes (IsThisText (stop_line stop) (stop_status stop)) result held held' faults faults'
+        → Writes (AnswersShape d shape budget commands) result held held' faults faults'
+    writes_failure stop judged w = elim judged [
+      | inl none ↦ writes_no_memory (AnswersShape d shape budget commands) (subst (λ s. Writes (IsThisText (stop_line s) (stop_status s)) result held held' faults faults') none w)
+      | inr failed ↦ stopped failed.0 failed.1 failed.2
+    ]
+      where
+        stopped : (test : Test) → IsFirstFailure d shape test → stop ≡ stop_of test → Writes (AnswersShape d shape budget commands) result held held' faults faults'
+        stopped test first same =
+            writes_just (AnswersShape d shape budget commands) (stop_line stop) (stop_status stop) (not_built test first (ap stop_status same) (ap stop_line same))
+            (λ output r means. let just = only_failure d shape budget commands test first output r means in (just.0 ∙ sym (ap stop_line same), just.1 ∙ sym (ap stop_status same))) w
+
+    -- one that is built
+    pub writes_built : (s : GluedPolygons) → IsBuildResult d shape (Ok s) → Writes (AnswersCommands s budget commands) result held held' faults faults'
+        → Writes (AnswersShape d shape budget commands) result held held' faults faults'
+    writes_built s judged =
+        writes_meant (AnswersCommands s budget commands) (AnswersShape d shape budget commands)
+        (λ output r means. built s judged.0 judged.1 judged.2 means)
+        (only_built d shape budget commands s judged.1 judged.2)
+
   module _ (law : JobLaw) (budget : ℕ) (bytes : List ℕ) (few : length bytes ≤ most_bytes) where
     -- bytes that are no job
     pub writes_fault : (e : JobStop) (fault : Fault) → e ≡ job_stops.Fault fault → (e ≡ job_stops.NoMemory) ⊎ ((f : Fault) × (e ≡ job_stops.Fault f) × IsFirstFault bytes f)
@@ -159,29 +197,26 @@ module _ (result : Status) (held held' : Option (List ℕ)) (faults faults' : �
           | inr found ↦ subst (IsFirstFault bytes) (sym (same_fault (sym is ∙ found.1))) found.2
         ]
 
-    -- a job whose shape isn't built
-    pub writes_stop : (draft : Draft) (e stop : BuildStop) → e ≡ stop → IsJob bytes draft → IsBuildResult draft.d (draft_shape draft) (Err e) → stop ≢ stops.NoMemory
+    -- a job whose table isn't unfolded
+    writes_stop : (draft : Draft) (table : List Point) (stop : BuildStop) → IsJob bytes draft → draft.table ≡ Some table → EndsUnfolding draft.d table (Err stop)
         → Writes (IsThisText (stop_line stop) (stop_status stop)) result held held' faults faults' → Writes (AnswersJob budget bytes) result held held' faults faults'
-    writes_stop draft e stop is reads judged some w = elim judged [
-      | inl none ↦ absurd (some (sym is ∙ none))
-      | inr failed ↦ stopped failed.0 failed.1 (sym is ∙ failed.2)
-    ]
-      where
-        stopped : (test : Test) → IsFirstFailure draft.d (draft_shape draft) test → stop ≡ stop_of test → Writes (AnswersJob budget bytes) result held held' faults faults'
-        stopped test first same =
-            writes_just (AnswersJob budget bytes) (stop_line stop) (stop_status stop) (not_built draft test few reads first (ap stop_status same) (ap stop_line same))
-            (λ output r means.
-            let just = only_stop law budget bytes draft test few reads first output r means in
-            (just.0 ∙ sym (ap stop_line same), just.1 ∙ sym (ap stop_status same))) w
+    writes_stop draft table stop reads is ends =
+        writes_just (AnswersJob budget bytes) (stop_line stop) (stop_status stop) (not_unfolded draft table stop few reads is ends refl refl) (only_stop law budget bytes draft table stop few reads is ends)
 
-    -- a job whose surface is built
-    pub writes_texts : (draft : Draft) (s : GluedPolygons) → IsJob bytes draft → IsSurface s → HasShape draft.d (draft_shape draft) s
-        → AllByRecursion (PassesOf draft.d (draft_shape draft)) (tests_of (draft_shape draft))
-        → Writes (AnswersCommands s budget draft.commands) result held held' faults faults' → Writes (AnswersJob budget bytes) result held held' faults faults'
-    writes_texts draft s reads surface shape all =
-        writes_meant (AnswersCommands s budget draft.commands) (AnswersJob budget bytes)
-        (λ output r means. answered draft s few reads surface shape all means)
-        (only_texts law budget bytes draft s few reads shape all)
+    -- as it is returned
+    pub writes_returned_stop : (draft : Draft) (table : List Point) (stop : BuildStop) → IsJob bytes draft → draft.table ≡ Some table → ReturnsUnfolding (EndsUnfolding draft.d table) (Err stop)
+        → Writes (IsThisText (stop_line stop) (stop_status stop)) result held held' faults faults' → Writes (AnswersJob budget bytes) result held held' faults faults'
+    writes_returned_stop draft table stops.NoMemory reads is ends w = writes_no_memory (AnswersJob budget bytes) w
+    writes_returned_stop draft table (stops.Fault fault) reads is ends w = writes_stop draft table (stops.Fault fault) reads is ends w
+    writes_returned_stop draft table (stops.Overflow site) reads is ends w = writes_stop draft table (stops.Overflow site) reads is ends w
+
+    -- a job that describes a shape
+    pub writes_shape : (draft : Draft) (shape : Shape) → IsJob bytes draft → DescribesShape draft shape → Writes (AnswersShape draft.d shape budget draft.commands) result held held' faults faults'
+        → Writes (AnswersJob budget bytes) result held held' faults faults'
+    writes_shape draft shape reads describes =
+        writes_meant (AnswersShape draft.d shape budget draft.commands) (AnswersJob budget bytes)
+        (λ output r means. answered draft shape few reads describes means)
+        (only_shape law budget bytes draft shape few reads describes)
 
   -- the answer to words that give the budget
   pub writes_by_words : (words : List (List ℕ)) (budget : ℕ) (bytes : List ℕ) → GiveBudget words budget → Writes (AnswersJob budget bytes) result held held' faults faults'

@@ -1,6 +1,7 @@
 pub mod WordBudgets
 pub mod CommandTexts
+pub mod DescribedShapes
+pub mod ShapeAnswers
 pub mod AnsweredUnique
-pub mod CallWrites
-pub mod SurfaceExists
 pub mod AnsweredExists
+pub mod CallWrites

@@ -1,5 +1,5 @@
 -- The whole answer to words and the bytes of a job: what is written, and the status.
-use Rattle.std.specs.Prelude.{◌≡◌, ℕ, ◌<◌, ◌≤◌, Bool, false, ◌||◌, if◌then◌else◌, List, [], ◌∷◌, ◌++◌, length}
+use Rattle.std.specs.Prelude.{◌≡◌, ℕ, ◌<◌, ◌≤◌, Bool, false, ◌||◌, if◌then◌else◌, None, Some, Ok, Err, List, [], ◌∷◌, ◌++◌, length}
 use Rattle.std.specs.List.{AllByRecursion}
 use Rattle.fs_lists.specs.First.{IsFirstWithout}
 use Rattle.fs_io.specs.Whole.{most_bytes}
@@ -7,10 +7,12 @@ use Rattle.fs_gluing.specs.declared.faults.Fault.{Fault}
 use Rattle.fs_gluing.specs.declared.faults.Fault.TheVariants.{NoSuchSide, TooLong}
 use Rattle.fs_gluing.specs.declared.faults.BuildStop.{BuildStop}
 use Rattle.fs_gluing.specs.declared.faults.BuildStop.TheVariants as stops
+use Rattle.fs_gluing.specs.declared.shapes.Point.{Point}
 use Rattle.fs_gluing.specs.declared.shapes.Shape.{Shape}
 use Rattle.fs_gluing.specs.Shape.{HasShape}
 use Rattle.fs_gluing.specs.Surface.{GluedPolygons, IsSurface}
 use Rattle.fs_gluing.specs.FirstFault.{Test, PassesOf, tests_of, IsFirstFailure, stop_of}
+use Rattle.fs_unfold.specs.Unfolding.{EndsUnfolding}
 use Rattle.fs_job.specs.declared.job.Command.{Command}
 use Rattle.fs_job.specs.declared.job.Command.TheVariants as commands
 use Rattle.fs_job.specs.Draft.{Draft}
@@ -33,9 +35,10 @@ stop_status (stops.Fault fault) = status.Refused
 stop_status (stops.Overflow site) = status.Partial
 stop_status stops.NoMemory = status.NoMemory
 
--- the shape that a job describes: without straight corners
-abbrev pub draft_shape : Draft → Shape
-draft_shape draft = record { polygons = draft.polygons; glues = draft.glues; straight = false }
+-- the shape that a job describes: that of its polygons, without straight corners, or that into which its table unfolds
+pub data DescribesShape (draft : Draft) (shape : Shape) : Type 0 where
+  by_polygons : draft.table ≡ None → shape ≡ record { polygons = draft.polygons; glues = draft.glues; straight = false } → DescribesShape draft shape
+  by_table : (table : List Point) → draft.table ≡ Some table → EndsUnfolding draft.d table (Ok shape) → DescribesShape draft shape
 
 -- the status of a text, by whether it is in place of a whole answer
 abbrev pub status_of : Bool → Status
@@ -75,19 +78,26 @@ pub data AnswersCommands (s : GluedPolygons) (budget : ℕ) (commands : List Com
   -- the surface has them all, and each command is answered, in order
   each_answered : (partial : Bool) → AllByRecursion (HasCorner s) commands → AnswersAll s budget commands output partial → result ≡ status_of partial → AnswersCommands s budget commands output result
 
+-- what commands about the surface of a shape are answered with
+pub data AnswersShape (d : ℕ) (shape : Shape) (budget : ℕ) (commands : List Command) (output : List ℕ) (result : Status) : Type 0 where
+  -- the shape fails a test of building
+  not_built : (test : Test) → IsFirstFailure d shape test → result ≡ stop_status (stop_of test) → output ≡ stop_line (stop_of test) → AnswersShape d shape budget commands output result
+  -- its surface is built, and the commands are answered
+  built : (s : GluedPolygons) → IsSurface s → HasShape d shape s → AllByRecursion (PassesOf d shape) (tests_of shape) → AnswersCommands s budget commands output result
+      → AnswersShape d shape budget commands output result
+
 -- the bytes are answered with this output and this status, each command within the budget, for one of four reasons
 pub data AnswersJob (budget : ℕ) (bytes output : List ℕ) (result : Status) : Type 0 where
   -- there are too many bytes
   too_long : most_bytes < length bytes → result ≡ status.Refused → output ≡ fault_line TooLong → AnswersJob budget bytes output result
   -- they are no job
   no_job : (fault : Fault) → length bytes ≤ most_bytes → IsFirstFault bytes fault → result ≡ status.Refused → output ≡ fault_line fault → AnswersJob budget bytes output result
-  -- the shape fails a test of building
-  not_built : (draft : Draft) → (test : Test) → length bytes ≤ most_bytes → IsJob bytes draft → IsFirstFailure draft.d (draft_shape draft) test
-      → result ≡ stop_status (stop_of test) → output ≡ stop_line (stop_of test) → AnswersJob budget bytes output result
-  -- the surface of the shape is built, and the commands are answered
-  answered : (draft : Draft) → (s : GluedPolygons) → length bytes ≤ most_bytes → IsJob bytes draft
-      → IsSurface s → HasShape draft.d (draft_shape draft) s → AllByRecursion (PassesOf draft.d (draft_shape draft)) (tests_of (draft_shape draft))
-      → AnswersCommands s budget draft.commands output result → AnswersJob budget bytes output result
+  -- the table isn't unfolded
+  not_unfolded : (draft : Draft) → (table : List Point) → (stop : BuildStop) → length bytes ≤ most_bytes → IsJob bytes draft → draft.table ≡ Some table → EndsUnfolding draft.d table (Err stop)
+      → result ≡ stop_status stop → output ≡ stop_line stop → AnswersJob budget bytes output result
+  -- the commands about the surface of the shape are answered
+  answered : (draft : Draft) → (shape : Shape) → length bytes ≤ most_bytes → IsJob bytes draft → DescribesShape draft shape → AnswersShape draft.d shape budget draft.commands output result
+      → AnswersJob budget bytes output result
 
 -- these words and these bytes are answered with this output and this status: the words give the budget
 pub record IsAnswered (words : List (List ℕ)) (bytes output : List ℕ) (result : Status) : Type 0 where

@@ -1,13 +1,15 @@
 // `flat`: a job read from a source and answered into a sink.
 
-ghost use Rattle.std.specs.Prelude.{◌≡◌, ◌↔◌, ◌≤◌, ℕ, List, length, map, IfSome, string_bytes};
+ghost use Rattle.std.specs.Prelude.{◌≡◌, ◌↔◌, ◌≤◌, ℕ, List, false, length, map, IfSome, string_bytes};
 ghost use Rattle.std.specs.Io.KnownBytes.{Appends, IsAtEnd, Keeps};
+ghost use Rattle.std.specs.List.{AllByRecursion};
 ghost use Rattle.fs_io.specs.Faults.{Rose};
 ghost use Rattle.fs_io.specs.Whole.{most_bytes, TakesPrefix};
-ghost use Rattle.fs_job.specs.Reading as reading;
+ghost use Rattle.fs_gluing.specs.Shape.{IsWithinLimits};
+ghost use Rattle.fs_job.specs.Reading.{HasDirection};
 ghost use Rattle.fs_cli.specs.Words.{most_budget, GiveBudget};
-ghost use Rattle.fs_cli.specs.Answer.{AnswersJob, IsAnswered, IsWhole, IsBroken, BeginsEach};
-ghost use Rattle.fs_cli.specs.Writing.{Writes};
+ghost use Rattle.fs_cli.specs.Answer.{stop_line, stop_status, AnswersShape, AnswersJob, IsAnswered, IsWhole, IsBroken, BeginsEach};
+ghost use Rattle.fs_cli.specs.Writing.{Writes, IsThisText};
 
 use crate::answering::{answer_commands, refuse, stop_at};
 use crate::laws::one_answer;
@@ -15,15 +17,41 @@ use crate::outcome::Status;
 use crate::words::find_budget;
 use fs_gluing::{BuildStop, Fault, Shape, build};
 use fs_io::{ReadStop, Sink, Source, read_all};
-use fs_job::{Form, JobStop, job_or_fault, read_job};
+use fs_job::{Command, Form, JobStop, job_or_fault, read_job};
+use fs_quadratic::Field;
+use fs_unfold::unfold;
 use std::alloc::Global;
 
-// The shape of a job of polygons.
-fn form_shape(form: &Form) -> &Shape
-    ensures { result.now ≡ reading.form_shape form.now }
+// Writes the answers to commands about the surface of a shape, or why it isn't built.
+fn answer_shape<O: Sink>(
+    alloc: Global,
+    field: Field,
+    shape: &Shape,
+    budget: u32,
+    commands: &[Command],
+    out: &mut O,
+) -> Status
+    requires limits { IsWithinLimits shape.now }
+    requires strict { shape.now.straight ≡ false }
+    requires directions { AllByRecursion HasDirection commands.now }
+    requires least { 1 ≤ budget }
+    requires most { budget ≤ most_budget }
+    ensures { Writes (AnswersShape field.d shape.now budget commands.now) result (O.held out.old) (O.held out.new) (O.faults out.old) (O.faults out.new) }
 {
-    match form {
-        Form::Polygons(shape) => shape,
+    match build(alloc, field, shape) {
+        Ok(surface) => answer_commands(alloc, &surface, budget, commands, out),
+        Err(stop) => write_stop(alloc, stop, out),
+    }
+}
+
+// Writes why a shape isn't built, or a table isn't unfolded.
+fn write_stop<O: Sink>(alloc: Global, stop: BuildStop, out: &mut O) -> Status
+    ensures { Writes (IsThisText (stop_line stop) (stop_status stop)) result (O.held out.old) (O.held out.new) (O.faults out.old) (O.faults out.new) }
+{
+    match stop {
+        BuildStop::Fault(fault) => refuse(alloc, &fault, out),
+        BuildStop::Overflow(site) => stop_at(alloc, &site, out),
+        BuildStop::NoMemory => Status::NoMemory,
     }
 }
 
@@ -41,11 +69,13 @@ fn answer<O: Sink>(alloc: Global, budget: u32, bytes: &[u8], out: &mut O) -> Sta
         Err(JobStop::Fault(fault)) => return refuse(alloc, &fault, out),
         Err(JobStop::NoMemory) => return Status::NoMemory,
     };
-    match build(alloc, job.field, form_shape(&job.form)) {
-        Ok(surface) => answer_commands(alloc, &surface, budget, job.commands.as_slice(), out),
-        Err(BuildStop::Fault(fault)) => refuse(alloc, &fault, out),
-        Err(BuildStop::Overflow(site)) => stop_at(alloc, &site, out),
-        Err(BuildStop::NoMemory) => Status::NoMemory,
+    let commands = job.commands.as_slice();
+    match &job.form {
+        Form::Polygons(shape) => answer_shape(alloc, job.field, shape, budget, commands, out),
+        Form::Table(table) => match unfold(alloc, job.field, table.as_slice()) {
+            Ok(shape) => answer_shape(alloc, job.field, &shape, budget, commands, out),
+            Err(stop) => write_stop(alloc, stop, out),
+        },
     }
 }
 
@@ -54,9 +84,9 @@ fn answer<O: Sink>(alloc: Global, budget: u32, bytes: &[u8], out: &mut O) -> Sta
 /// The words may be `--steps N` or `--steps=N`, N being 1 to 1,000,000 in one to nine decimal digits:
 /// each command may take N steps. Without words N is 100,000. `Usage` comes exactly for all other words.
 ///
-/// `Refused` writes the line of the first fault: that of the job, of its surface, or of the first command that
-/// names a corner which the surface doesn't have. `Partial` writes the line of the site where building
-/// overflowed, or the answers to the commands in order, of which at least one isn't whole. `Done`
+/// A table is unfolded into the shape of a surface first. `Refused` writes the line of the first fault: that of the
+/// job, of its table, of its surface, or of the first command that names a corner which the surface doesn't have.
+/// `Partial` writes the line of the site where unfolding or building overflowed, or the answers to the commands in order, of which at least one isn't whole. `Done`
 /// writes the answers to the commands in order: nothing where there are none.
 #[tactic(auto, using(crate::proofs::CallWrites::nothing_begins))]
 pub fn flat<I: Source, O: Sink>(

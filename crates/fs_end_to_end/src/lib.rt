@@ -20,4 +20,6 @@ mod strata;
 #[cfg(test)]
 mod surfaces;
 #[cfg(test)]
+mod tables;
+#[cfg(test)]
 mod words;

@@ -1,13 +1,12 @@
 -- The lines of a text lead to one job or to one first fault.
-use Rattle.std.proofs.Common.{◌≡◌, ◌≢◌, ℕ, ◌+◌, ◌<◌, ◌⊎◌, inl, inr, List, [], ◌∷◌, ◌++◌, length, refl, sym, ap, ◌∙◌, subst, arith, append_assoc, append-nil, length-append, add-zero}
+use Rattle.std.proofs.Common.{◌≡◌, ◌≢◌, ℕ, ◌+◌, ◌⊎◌, inl, inr, List, [], ◌∷◌, ◌++◌, length, refl, sym, ap, ◌∙◌, subst, arith, append_assoc, append-nil, length-append, add-zero}
 use Rattle.fs_gluing.specs.declared.faults.Fault.{Fault}
 use Rattle.fs_gluing.specs.declared.faults.Fault.TheVariants as faults
 use Rattle.fs_job.specs.Pieces.{lines_of}
-use Rattle.fs_job.specs.Statement.{Statement, field_line, polygon_line, glue_line, command_line, end_line}
-use Rattle.fs_job.specs.Draft.{Draft, Progress, nothing, headed, drafted, ended, Outcome, to_progress, to_fault, draft_of, IsAllowed, Adds}
+use Rattle.fs_job.specs.Statement.{Statement, field_line, polygon_line, table_line, glue_line, command_line, end_line}
+use Rattle.fs_job.specs.Draft.{Draft, Progress, nothing, headed, drafted, ended, Outcome, to_progress, to_fault, draft_of, DescribesSurface, IsAllowed, Adds}
 use Rattle.fs_job.specs.Grammar.{Leads, LinesLead, IsJob, IsFirstFault, at_line, no_header, no_end}
 use Rattle.fs_job.proofs.Leads.{to_progress_injective, to_fault_injective, progress_not_fault, leads_unique, leads_exists, line_keeps, nothing_or_not}
-use Rattle.fs_lists.proofs.Equal.{length-positive}
 
 ended_injective : (a b : Draft) → ended a ≡ ended b → a ≡ b
 ended_injective a b e = cc
@@ -76,29 +75,30 @@ bad_header_at_end bytes rest number a l e is = no_header (subst (λ (b : Progres
 pub no_end_at_end : (bytes : List ℕ) (rest : List (List ℕ)) (number : ℕ) (a : Progress) → LedTo bytes rest number a → rest ≡ [] → a ≢ nothing → ((draft : Draft) → a ≢ ended draft) → IsFirstFault bytes faults.NoEnd
 no_end_at_end bytes rest number a l e some unended = no_end a (lines_lead_to_end bytes rest number a l e) some unended refl
 
--- ---- a job has a polygon
+-- ---- a job describes a surface
 
--- at the end there is a polygon
-abbrev pub HasPolygonAtEnd : Progress → Type 0
-HasPolygonAtEnd nothing = Unit {0}
-HasPolygonAtEnd headed = Unit {0}
-HasPolygonAtEnd (drafted draft) = Unit {0}
-HasPolygonAtEnd (ended draft) = 0 < length draft.polygons
+-- at the end there are polygons or a table
+abbrev pub HasSurfaceAtEnd : Progress → Type 0
+HasSurfaceAtEnd nothing = Unit {0}
+HasSurfaceAtEnd headed = Unit {0}
+HasSurfaceAtEnd (drafted draft) = Unit {0}
+HasSurfaceAtEnd (ended draft) = DescribesSurface draft
 
-polygon_at_end_added : (n : ℕ) (before : Progress) (s : Statement) (after : Progress) → IsAllowed before s → Adds n (draft_of before) s after → HasPolygonAtEnd after
-polygon_at_end_added n before (field_line d) after may adds = subst HasPolygonAtEnd (sym adds) tt
-polygon_at_end_added n before (polygon_line pairs) after may adds = subst HasPolygonAtEnd (sym adds.2) tt
-polygon_at_end_added n before (glue_line one two) after may adds = subst HasPolygonAtEnd (sym adds) tt
-polygon_at_end_added n before (command_line stated) after may adds = subst HasPolygonAtEnd (sym adds.2) tt
-polygon_at_end_added n nothing end_line after may adds = absurd may
-polygon_at_end_added n headed end_line after may adds = absurd may
-polygon_at_end_added n (drafted draft) end_line after may adds = subst HasPolygonAtEnd (sym adds) (length-positive draft.polygons may)
-polygon_at_end_added n (ended draft) end_line after may adds = absurd may
+surface_at_end_added : (n : ℕ) (before : Progress) (s : Statement) (after : Progress) → IsAllowed before s → Adds n (draft_of before) s after → HasSurfaceAtEnd after
+surface_at_end_added n before (field_line d) after may adds = subst HasSurfaceAtEnd (sym adds) tt
+surface_at_end_added n before (polygon_line pairs) after may adds = subst HasSurfaceAtEnd (sym adds.2) tt
+surface_at_end_added n before (table_line pairs) after may adds = subst HasSurfaceAtEnd (sym adds.2) tt
+surface_at_end_added n before (glue_line one two) after may adds = subst HasSurfaceAtEnd (sym adds) tt
+surface_at_end_added n before (command_line stated) after may adds = subst HasSurfaceAtEnd (sym adds.2) tt
+surface_at_end_added n nothing end_line after may adds = absurd may
+surface_at_end_added n headed end_line after may adds = absurd may
+surface_at_end_added n (drafted draft) end_line after may adds = subst HasSurfaceAtEnd (sym adds) may
+surface_at_end_added n (ended draft) end_line after may adds = absurd may
 
 -- it stays so from line to line
-pub polygon_at_end_after : (n : ℕ) (before : Progress) (line : List ℕ) (after : Progress) → HasPolygonAtEnd before → Leads n before line (to_progress after) → HasPolygonAtEnd after
-polygon_at_end_after n before line after ready leads =
-    line_keeps n before line HasPolygonAtEnd tt (λ s next may room sense adds. polygon_at_end_added n before s next may adds) ready after leads
+pub surface_at_end_after : (n : ℕ) (before : Progress) (line : List ℕ) (after : Progress) → HasSurfaceAtEnd before → Leads n before line (to_progress after) → HasSurfaceAtEnd after
+surface_at_end_after n before line after ready leads =
+    line_keeps n before line HasSurfaceAtEnd tt (λ s next may room sense adds. surface_at_end_added n before s next may adds) ready after leads
 
 -- ---- a job or a first fault, and not both
 

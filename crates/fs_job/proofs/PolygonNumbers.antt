@@ -1,4 +1,4 @@
--- The numbers of a polygon line, read from left to right.
+-- The numbers of a polygon or table line, read from left to right.
 use Rattle.std.proofs.Common.{◌≡◌, ◌≢◌, ℕ, List, [], ◌∷◌, ◌++◌, Option, None, Some, MatchOption, unwrap_or, eqb, length, refl, sym, ap, ◌∙◌, subst, append_assoc, arith}
 use denote.Ref.{Bor}
 use Rattle.std.specs.List.{AllByRecursion}

@@ -1,12 +1,12 @@
 -- A statement leads to one outcome, and to no other.
-use Rattle.std.proofs.Common.{◌≡◌, ℕ, List, [], ◌∷◌, ◌++◌, inl, inr, refl, sym, ap, ◌∙◌}
+use Rattle.std.proofs.Common.{◌≡◌, ℕ, Some, List, [], ◌∷◌, ◌++◌, inl, inr, refl, sym, ap, ◌∙◌}
 use Rattle.std.specs.List.{AllByRecursion}
 use Rattle.fs_fraction.specs.declared.number.NumberFault.{NumberFault}
 use Rattle.fs_gluing.specs.declared.faults.Fault.{Fault}
 use Rattle.fs_gluing.specs.declared.faults.Fault.TheVariants as faults
 use Rattle.fs_gluing.specs.declared.shapes.Point.{Point}
 use Rattle.fs_job.specs.declared.job.Command.{Command}
-use Rattle.fs_job.specs.Statement.{Statement, field_line, polygon_line, glue_line, command_line, end_line, number_texts}
+use Rattle.fs_job.specs.Statement.{Statement, field_line, polygon_line, table_line, glue_line, command_line, end_line, number_texts}
 use Rattle.fs_job.specs.Draft.{Draft, Progress, drafted, Outcome, to_progress, to_fault, draft_of, IsAllowed, HasRoom, IsNumber, HasBadNumber, number_fault, IsSenseless, Adds, StatementLeads, bad_line, too_many, bad_number, senseless, accepted}
 use Rattle.fs_job.proofs.Choices.{Unique, Choice, choice_unique, Is, is_unique}
 use Rattle.fs_job.proofs.NumberTexts.{numbers_or_bad, numbers_not_bad, bad_number_unique}
@@ -20,6 +20,8 @@ adds_unique : (n : ℕ) (draft : Draft) (s : Statement) (b c : Progress) → Add
 adds_unique n draft (field_line d) b c p q = p ∙ sym q
 adds_unique n draft (polygon_line pairs) b c p q =
     p.2 ∙ (ap (λ (points : List Point). drafted (record draft { polygons = draft.polygons ++ points ∷ [] })) (points_unique pairs p.0 q.0 p.1 q.1) ∙ sym q.2)
+adds_unique n draft (table_line pairs) b c p q =
+    p.2 ∙ (ap (λ (points : List Point). drafted (record draft { table = Some points })) (points_unique pairs p.0 q.0 p.1 q.1) ∙ sym q.2)
 adds_unique n draft (glue_line one two) b c p q = p ∙ sym q
 adds_unique n draft (command_line stated) b c p q =
     p.2 ∙ (ap (λ (command : Command). drafted (record draft { commands = draft.commands ++ command ∷ [] })) (command_unique n stated p.0 q.0 p.1 q.1) ∙ sym q.2)
@@ -29,6 +31,7 @@ adds_unique n draft end_line b c p q = p ∙ sym q
 adds_numbers : (n : ℕ) (draft : Draft) (s : Statement) (after : Progress) → Adds n draft s after → AllByRecursion IsNumber (number_texts s)
 adds_numbers n draft (field_line d) after p = tt
 adds_numbers n draft (polygon_line pairs) after p = points_are_numbers pairs p.0 p.1
+adds_numbers n draft (table_line pairs) after p = points_are_numbers pairs p.0 p.1
 adds_numbers n draft (glue_line one two) after p = tt
 adds_numbers n draft (command_line stated) after p = command_is_numbers n stated p.0 p.1
 adds_numbers n draft end_line after p = tt
@@ -36,6 +39,7 @@ adds_numbers n draft end_line after p = tt
 adds_exists : (n : ℕ) (draft : Draft) (s : Statement) → AllByRecursion IsNumber (number_texts s) → (after : Progress) × Adds n draft s after
 adds_exists n draft (field_line d) all = (_, refl)
 adds_exists n draft (polygon_line pairs) all = let found = points_exist pairs all in (_, (found.0, found.1, refl))
+adds_exists n draft (table_line pairs) all = let found = points_exist pairs all in (_, (found.0, found.1, refl))
 adds_exists n draft (glue_line one two) all = (_, refl)
 adds_exists n draft (command_line stated) all = let found = command_exists n stated all in (_, (found.0, found.1, refl))
 adds_exists n draft end_line all = (_, refl)
@@ -44,6 +48,7 @@ adds_exists n draft end_line all = (_, refl)
 senseless_unique : (n : ℕ) (s : Statement) (f g : Fault) → IsSenseless n s f → IsSenseless n s g → f ≡ g
 senseless_unique n (field_line d) f g p q = p.1 ∙ sym q.1
 senseless_unique n (polygon_line pairs) f g p q = absurd p
+senseless_unique n (table_line pairs) f g p q = absurd p
 senseless_unique n (glue_line one two) f g p q = absurd p
 senseless_unique n (command_line stated) f g p q = p.1 ∙ sym q.1
 senseless_unique n end_line f g p q = absurd p

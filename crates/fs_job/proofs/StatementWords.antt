@@ -4,7 +4,7 @@ use Rattle.std.specs.Prelude.{codes, ◌==◌, if◌then◌else◌}
 use Rattle.std.specs.Str.{bytes_eq}
 use Rattle.fs_plane.specs.declared.corners.Corner.{Corner}
 use Rattle.fs_job.specs.Pieces.{pieces}
-use Rattle.fs_job.specs.Statement.{Pair, SpellsNumeral, SpellsCorner, IsPair, ArePairs, StatedCommand, check, stratum, segment, delaunay, cells, saddles, flow, SpellsCommand, Statement, field_line, polygon_line, glue_line, command_line, end_line, SpellsStatement}
+use Rattle.fs_job.specs.Statement.{Pair, SpellsNumeral, SpellsCorner, IsPair, ArePairs, StatedCommand, check, stratum, segment, delaunay, cells, saddles, flow, SpellsCommand, Statement, field_line, polygon_line, table_line, glue_line, command_line, end_line, SpellsStatement}
 use Rattle.fs_job.specs.Line.{SpellsField, SpellsGlue, SpellsSegment, SpellsFlow}
 use Rattle.fs_lists.proofs.Equal.{heads_equal, tails_equal}
 use Rattle.fs_job.proofs.Pairs.{pair_unique, pairs_unique}
@@ -77,6 +77,7 @@ command_word (flow pair) = codes "flow"
 abbrev statement_word : Statement → List ℕ
 statement_word (field_line d) = codes "field"
 statement_word (polygon_line pairs) = codes "polygon"
+statement_word (table_line pairs) = codes "table"
 statement_word (glue_line one two) = codes "glue"
 statement_word (command_line stated) = command_word stated
 statement_word end_line = codes "end"
@@ -95,6 +96,7 @@ SpellsArguments rest (flow pair) = SpellsFlow rest pair
 abbrev SpellsRest : List (List ℕ) → Statement → Type 0
 SpellsRest rest (field_line d) = SpellsField rest d
 SpellsRest rest (polygon_line pairs) = ArePairs rest pairs
+SpellsRest rest (table_line pairs) = ArePairs rest pairs
 SpellsRest rest (glue_line one two) = SpellsGlue rest one two
 SpellsRest rest (command_line stated) = SpellsArguments rest stated
 SpellsRest rest end_line = rest ≡ []
@@ -113,6 +115,7 @@ command_parts words (flow pair) s = (s.0 ∷ [], s.1, (s.0, refl, s.2))
 spelled_parts : (words : List (List ℕ)) (s : Statement) → SpellsStatement words s → (rest : List (List ℕ)) × (words ≡ statement_word s ∷ rest) × SpellsRest rest s
 spelled_parts words (field_line d) s = (s.0 ∷ [], s.1, (s.0, refl, s.2))
 spelled_parts words (polygon_line pairs) s = (s.0, s.1, s.2)
+spelled_parts words (table_line pairs) s = (s.0, s.1, s.2)
 spelled_parts words (glue_line one two) s = (s.0 ∷ s.1 ∷ [], s.2, (s.0, s.1, refl, s.3, s.4))
 spelled_parts words (command_line stated) s = command_parts words stated s.4
 spelled_parts words end_line s = ([], s, refl)
@@ -135,20 +138,21 @@ nil_spells_none words e s shows = some (statement_word s) (spelled_parts words s
 
 -- a number for each command
 abbrev command_kind : StatedCommand → ℕ
-command_kind check = 4
-command_kind stratum = 5
-command_kind (segment start pair) = 6
-command_kind delaunay = 7
-command_kind cells = 8
-command_kind (saddles limit) = 9
-command_kind (flow pair) = 10
+command_kind check = 5
+command_kind stratum = 6
+command_kind (segment start pair) = 7
+command_kind delaunay = 8
+command_kind cells = 9
+command_kind (saddles limit) = 10
+command_kind (flow pair) = 11
 
 -- a number for each kind of statement, and for each command
 abbrev kind : Statement → ℕ
 kind (field_line d) = 0
 kind (polygon_line pairs) = 1
-kind (glue_line one two) = 2
-kind end_line = 3
+kind (table_line pairs) = 2
+kind (glue_line one two) = 3
+kind end_line = 4
 kind (command_line stated) = command_kind stated
 
 -- the kind that a first word tells
@@ -156,15 +160,16 @@ abbrev kind_of_word : List ℕ → ℕ
 kind_of_word name =
     if bytes_eq name (codes "field") then 0
     else if bytes_eq name (codes "polygon") then 1
-    else if bytes_eq name (codes "glue") then 2
-    else if bytes_eq name (codes "end") then 3
-    else if bytes_eq name (codes "check") then 4
-    else if bytes_eq name (codes "stratum") then 5
-    else if bytes_eq name (codes "segment") then 6
-    else if bytes_eq name (codes "delaunay") then 7
-    else if bytes_eq name (codes "cells") then 8
-    else if bytes_eq name (codes "saddles") then 9
-    else 10
+    else if bytes_eq name (codes "table") then 2
+    else if bytes_eq name (codes "glue") then 3
+    else if bytes_eq name (codes "end") then 4
+    else if bytes_eq name (codes "check") then 5
+    else if bytes_eq name (codes "stratum") then 6
+    else if bytes_eq name (codes "segment") then 7
+    else if bytes_eq name (codes "delaunay") then 8
+    else if bytes_eq name (codes "cells") then 9
+    else if bytes_eq name (codes "saddles") then 10
+    else 11
 
 kind_of_command_word : (stated : StatedCommand) → kind_of_word (command_word stated) ≡ command_kind stated
 kind_of_command_word check = refl
@@ -178,6 +183,7 @@ kind_of_command_word (flow pair) = refl
 kind_of_statement_word : (s : Statement) → kind_of_word (statement_word s) ≡ kind s
 kind_of_statement_word (field_line d) = refl
 kind_of_statement_word (polygon_line pairs) = refl
+kind_of_statement_word (table_line pairs) = refl
 kind_of_statement_word (glue_line one two) = refl
 kind_of_statement_word end_line = refl
 kind_of_statement_word (command_line stated) = kind_of_command_word stated
@@ -186,7 +192,7 @@ kind_unique : (s t : Statement) → statement_word s ≡ statement_word t → ki
 kind_unique s t e = sym (kind_of_statement_word s) ∙ (ap kind_of_word e ∙ kind_of_statement_word t)
 
 -- commands have the last numbers
-command_kind_least : (stated : StatedCommand) → 4 ≤ command_kind stated
+command_kind_least : (stated : StatedCommand) → 5 ≤ command_kind stated
 command_kind_least check = omega arith
 command_kind_least stratum = omega arith
 command_kind_least (segment start pair) = omega arith
@@ -197,16 +203,18 @@ command_kind_least (flow pair) = omega arith
 
 -- ---- lines whose first word is known, and whose other words spell nothing
 
-rest_not_glue : (rest : List (List ℕ)) → ((one two : Corner) → ¬ SpellsGlue rest one two) → (s : Statement) → kind s ≡ 2 → SpellsRest rest s → ⊥
+rest_not_glue : (rest : List (List ℕ)) → ((one two : Corner) → ¬ SpellsGlue rest one two) → (s : Statement) → kind s ≡ 3 → SpellsRest rest s → ⊥
 rest_not_glue rest none (glue_line one two) k shows = none one two shows
 rest_not_glue rest none (field_line d) k shows = absurd (omega arith)
 rest_not_glue rest none (polygon_line pairs) k shows = absurd (omega arith)
+rest_not_glue rest none (table_line pairs) k shows = absurd (omega arith)
 rest_not_glue rest none (command_line stated) k shows = absurd (omega (arith, command_kind_least stated))
 rest_not_glue rest none end_line k shows = absurd (omega arith)
 
 rest_not_field : (rest : List (List ℕ)) → ((d : ℕ) → ¬ SpellsField rest d) → (s : Statement) → kind s ≡ 0 → SpellsRest rest s → ⊥
 rest_not_field rest none (field_line d) k shows = none d shows
 rest_not_field rest none (polygon_line pairs) k shows = absurd (omega arith)
+rest_not_field rest none (table_line pairs) k shows = absurd (omega arith)
 rest_not_field rest none (glue_line one two) k shows = absurd (omega arith)
 rest_not_field rest none (command_line stated) k shows = absurd (omega (arith, command_kind_least stated))
 rest_not_field rest none end_line k shows = absurd (omega arith)
@@ -231,7 +239,7 @@ spelled_arguments word rest stated shows =
     let p = command_parts (word ∷ rest) stated shows in
     (heads_equal (command_word stated) word p.0 rest (sym p.1), subst (λ ws. SpellsArguments ws stated) (tails_equal (command_word stated) word p.0 rest (sym p.1)) p.2)
 
-arguments_not_segment : (rest : List (List ℕ)) → ((start : Corner) (pair : Pair) → ¬ SpellsSegment rest start pair) → (stated : StatedCommand) → command_kind stated ≡ 6 → SpellsArguments rest stated → ⊥
+arguments_not_segment : (rest : List (List ℕ)) → ((start : Corner) (pair : Pair) → ¬ SpellsSegment rest start pair) → (stated : StatedCommand) → command_kind stated ≡ 7 → SpellsArguments rest stated → ⊥
 arguments_not_segment rest none check k shows = absurd (omega arith)
 arguments_not_segment rest none stratum k shows = absurd (omega arith)
 arguments_not_segment rest none (segment start pair) k shows = none start pair shows
@@ -246,7 +254,7 @@ not_segment_command word rest named none stated shows =
     let b = spelled_arguments word rest stated shows in
     arguments_not_segment rest none stated (sym (kind_of_command_word stated) ∙ ap kind_of_word (b.0 ∙ named)) b.1
 
-arguments_not_flow : (rest : List (List ℕ)) → ((pair : Pair) → ¬ SpellsFlow rest pair) → (stated : StatedCommand) → command_kind stated ≡ 10 → SpellsArguments rest stated → ⊥
+arguments_not_flow : (rest : List (List ℕ)) → ((pair : Pair) → ¬ SpellsFlow rest pair) → (stated : StatedCommand) → command_kind stated ≡ 11 → SpellsArguments rest stated → ⊥
 arguments_not_flow rest none check k shows = absurd (omega arith)
 arguments_not_flow rest none stratum k shows = absurd (omega arith)
 arguments_not_flow rest none (segment start pair) k shows = absurd (omega arith)
@@ -265,11 +273,11 @@ not_flow_command word rest named none stated shows =
 
 -- the command without arguments that has this number
 abbrev bare : ℕ → StatedCommand
-bare kind = if kind == 4 then check else if kind == 5 then stratum else if kind == 7 then delaunay else cells
+bare kind = if kind == 5 then check else if kind == 6 then stratum else if kind == 8 then delaunay else cells
 
 -- the numbers of the commands with arguments
 abbrev HasArguments : ℕ → Type 0
-HasArguments kind = (kind ≡ 6) ⊎ (9 ≤ kind)
+HasArguments kind = (kind ≡ 7) ⊎ (10 ≤ kind)
 
 bare_of_kind : (stated : StatedCommand) → ¬ HasArguments (command_kind stated) → stated ≡ bare (command_kind stated)
 bare_of_kind check other = refl
@@ -284,15 +292,15 @@ bare_of_kind (flow pair) other = absurd (other (inr (omega arith)))
 bare_unique : (c e : StatedCommand) → command_kind c ≡ command_kind e → ¬ HasArguments (command_kind c) → c ≡ e
 bare_unique c e k other = bare_of_kind c other ∙ (ap bare k ∙ sym (bare_of_kind e (λ has. other (subst HasArguments (sym k) has))))
 
-no_arguments : (kind : ℕ) → kind ≢ 6 → kind < 9 → ¬ HasArguments kind
-no_arguments kind six few (inl e) = six e
-no_arguments kind six few (inr many) = absurd (omega arith)
+no_arguments : (kind : ℕ) → kind ≢ 7 → kind < 10 → ¬ HasArguments kind
+no_arguments kind seven few (inl e) = seven e
+no_arguments kind seven few (inr many) = absurd (omega arith)
 
 arguments_unique : (rest : List (List ℕ)) (c e : StatedCommand) → command_kind c ≡ command_kind e → SpellsArguments rest c → SpellsArguments rest e → c ≡ e
-arguments_unique rest check e k a b = bare_unique check e k (no_arguments 4 (omega arith) (omega arith))
-arguments_unique rest stratum e k a b = bare_unique stratum e k (no_arguments 5 (omega arith) (omega arith))
-arguments_unique rest delaunay e k a b = bare_unique delaunay e k (no_arguments 7 (omega arith) (omega arith))
-arguments_unique rest cells e k a b = bare_unique cells e k (no_arguments 8 (omega arith) (omega arith))
+arguments_unique rest check e k a b = bare_unique check e k (no_arguments 5 (omega arith) (omega arith))
+arguments_unique rest stratum e k a b = bare_unique stratum e k (no_arguments 6 (omega arith) (omega arith))
+arguments_unique rest delaunay e k a b = bare_unique delaunay e k (no_arguments 8 (omega arith) (omega arith))
+arguments_unique rest cells e k a b = bare_unique cells e k (no_arguments 9 (omega arith) (omega arith))
 arguments_unique rest (segment start pair) check k a b = absurd (omega arith)
 arguments_unique rest (segment start pair) stratum k a b = absurd (omega arith)
 arguments_unique rest (segment start pair) delaunay k a b = absurd (omega arith)
@@ -324,16 +332,25 @@ arguments_unique rest (segment start pair) (segment start' pair') k a b =
 rest_unique : (rest : List (List ℕ)) (s t : Statement) → kind s ≡ kind t → SpellsRest rest s → SpellsRest rest t → s ≡ t
 rest_unique rest (field_line d) (field_line e) k a b = ap field_line (numeral_unique 4 a.0 d e a.2 (subst (λ u. SpellsNumeral 4 u e) (only_word_unique b.0 a.0 rest b.1 a.1) b.2))
 rest_unique rest (field_line d) (polygon_line others) k a b = absurd (omega arith)
+rest_unique rest (field_line d) (table_line others) k a b = absurd (omega arith)
 rest_unique rest (field_line d) (glue_line three four) k a b = absurd (omega arith)
 rest_unique rest (field_line d) (command_line c) k a b = absurd (omega (arith, command_kind_least c))
 rest_unique rest (field_line d) end_line k a b = absurd (omega arith)
 rest_unique rest (polygon_line pairs) (field_line e) k a b = absurd (omega arith)
 rest_unique rest (polygon_line pairs) (polygon_line others) k a b = ap polygon_line (pairs_unique rest pairs others a b)
+rest_unique rest (polygon_line pairs) (table_line others) k a b = absurd (omega arith)
 rest_unique rest (polygon_line pairs) (glue_line three four) k a b = absurd (omega arith)
 rest_unique rest (polygon_line pairs) (command_line c) k a b = absurd (omega (arith, command_kind_least c))
 rest_unique rest (polygon_line pairs) end_line k a b = absurd (omega arith)
+rest_unique rest (table_line pairs) (field_line e) k a b = absurd (omega arith)
+rest_unique rest (table_line pairs) (polygon_line others) k a b = absurd (omega arith)
+rest_unique rest (table_line pairs) (table_line others) k a b = ap table_line (pairs_unique rest pairs others a b)
+rest_unique rest (table_line pairs) (glue_line three four) k a b = absurd (omega arith)
+rest_unique rest (table_line pairs) (command_line c) k a b = absurd (omega (arith, command_kind_least c))
+rest_unique rest (table_line pairs) end_line k a b = absurd (omega arith)
 rest_unique rest (glue_line one two) (field_line e) k a b = absurd (omega arith)
 rest_unique rest (glue_line one two) (polygon_line others) k a b = absurd (omega arith)
+rest_unique rest (glue_line one two) (table_line others) k a b = absurd (omega arith)
 rest_unique rest (glue_line one two) (glue_line three four) k a b =
     let words = two_words rest (a.1 ∷ []) a.0 b.0 b.1 a.2 b.2 in
     let second = heads_equal b.1 a.1 [] [] (sym words.1) in
@@ -344,11 +361,13 @@ rest_unique rest (glue_line one two) (command_line c) k a b = absurd (omega (ari
 rest_unique rest (glue_line one two) end_line k a b = absurd (omega arith)
 rest_unique rest (command_line c) (field_line e) k a b = absurd (omega (arith, command_kind_least c))
 rest_unique rest (command_line c) (polygon_line others) k a b = absurd (omega (arith, command_kind_least c))
+rest_unique rest (command_line c) (table_line others) k a b = absurd (omega (arith, command_kind_least c))
 rest_unique rest (command_line c) (glue_line three four) k a b = absurd (omega (arith, command_kind_least c))
 rest_unique rest (command_line c) (command_line e) k a b = ap command_line (arguments_unique rest c e k a b)
 rest_unique rest (command_line c) end_line k a b = absurd (omega (arith, command_kind_least c))
 rest_unique rest end_line (field_line e) k a b = absurd (omega arith)
 rest_unique rest end_line (polygon_line others) k a b = absurd (omega arith)
+rest_unique rest end_line (table_line others) k a b = absurd (omega arith)
 rest_unique rest end_line (glue_line three four) k a b = absurd (omega arith)
 rest_unique rest end_line (command_line c) k a b = absurd (omega (arith, command_kind_least c))
 rest_unique rest end_line end_line k a b = refl

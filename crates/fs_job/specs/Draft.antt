@@ -1,5 +1,5 @@
 -- What the lines of a job say together, where a statement is allowed, and what it leads to: a draft with the statement added, or a fault.
-use Rattle.std.specs.Prelude.{◌≡◌, ◌≢◌, ℕ, ◌+◌, ◌<◌, ◌≤◌, Bool, true, false, List, [], ◌∷◌, ◌++◌, Result, Ok, Err, length, sum_by, Contains}
+use Rattle.std.specs.Prelude.{◌≡◌, ◌≢◌, ℕ, ◌+◌, ◌<◌, ◌≤◌, ◌⊎◌, Bool, true, false, List, [], ◌∷◌, ◌++◌, Option, None, Some, Result, Ok, Err, length, sum_by, Contains}
 use Rattle.std.specs.List.{AllByRecursion}
 use Rattle.fs_lists.specs.First.{IsFirstWithout}
 use Rattle.fs_quadratic.specs.Radicand.{IsRadicand}
@@ -16,11 +16,13 @@ use Rattle.fs_gluing.specs.declared.shapes.Point.{Point}
 use Rattle.fs_plane.specs.Vector.{PlaneVector, vector_zero}
 use Rattle.fs_job.specs.declared.job.Command.{Command}
 use Rattle.fs_job.specs.declared.job.Command.TheVariants as commands
-use Rattle.fs_job.specs.Statement.{Pair, StatedCommand, check, stratum, segment, delaunay, cells, saddles, flow, NumberText, Statement, field_line, polygon_line, glue_line, command_line, end_line, number_texts}
+use Rattle.fs_job.specs.Statement.{Pair, StatedCommand, check, stratum, segment, delaunay, cells, saddles, flow, NumberText, Statement, field_line, polygon_line, table_line, glue_line, command_line, end_line, number_texts}
 
 -- what the lines of a job so far said
 pub record Draft : Type 0 where
   pub d : ℕ
+  -- the sides of its table, where it has one
+  pub table : Option (List Point)
   pub polygons : List (List Point)
   pub glues : List Glue
   pub commands : List Command
@@ -38,27 +40,37 @@ pub data Progress : Type 0 where
 
 -- the draft so far; without one, an empty one
 abbrev pub draft_of : Progress → Draft
-draft_of nothing = record { d = 0; polygons = []; glues = []; commands = [] }
-draft_of headed = record { d = 0; polygons = []; glues = []; commands = [] }
+draft_of nothing = record { d = 0; table = None; polygons = []; glues = []; commands = [] }
+draft_of headed = record { d = 0; table = None; polygons = []; glues = []; commands = [] }
 draft_of (drafted draft) = draft
 draft_of (ended draft) = draft
 
--- such a statement is allowed here: the field once and second; polygons and glue lines before the commands; commands and the end after a polygon
+-- it describes a surface, by polygons or by a table
+abbrev pub DescribesSurface : Draft → Type 0
+DescribesSurface draft = (draft.polygons ≢ []) ⊎ (draft.table ≢ None)
+
+-- such a statement is allowed here: the field once and second; polygons and glue lines before the commands, or one table in place of them; commands and the end after a polygon or a table
 abbrev pub IsAllowed : Progress → Statement → Type 0
 IsAllowed headed (field_line d) = Unit {0}
-IsAllowed (drafted draft) (polygon_line pairs) = draft.commands ≡ []
-IsAllowed (drafted draft) (glue_line one two) = draft.commands ≡ []
-IsAllowed (drafted draft) (command_line command) = draft.polygons ≢ []
-IsAllowed (drafted draft) end_line = draft.polygons ≢ []
+IsAllowed (drafted draft) (polygon_line pairs) = (draft.table ≡ None) × (draft.commands ≡ [])
+IsAllowed (drafted draft) (table_line pairs) = (draft.table ≡ None) × (draft.polygons ≡ []) × (draft.glues ≡ [])
+IsAllowed (drafted draft) (glue_line one two) = (draft.table ≡ None) × (draft.commands ≡ [])
+IsAllowed (drafted draft) (command_line command) = DescribesSurface draft
+IsAllowed (drafted draft) end_line = DescribesSurface draft
 IsAllowed before statement = ⊥
 
 -- the most commands of a job
 abbrev pub most_commands : ℕ
 most_commands = 256
 
+-- the most sides of a table
+abbrev pub most_table_sides : ℕ
+most_table_sides = 42
+
 -- the limits leave room for it
 abbrev pub HasRoom : Draft → Statement → Type 0
 HasRoom draft (polygon_line pairs) = (length draft.polygons < most_polygons) × (sum_by length draft.polygons + length pairs ≤ most_sides)
+HasRoom draft (table_line pairs) = length pairs ≤ most_table_sides
 HasRoom draft (command_line command) = length draft.commands < most_commands
 HasRoom draft (field_line d) = Unit {0}
 HasRoom draft (glue_line one two) = Unit {0}
@@ -122,6 +134,7 @@ HasZeroDirection (flow pair) = (v : PlaneVector) × IsVector pair v × (v ≡ ve
 abbrev pub IsSenseless : ℕ → Statement → Fault → Type 0
 IsSenseless n (field_line d) fault = (¬ IsRadicand d) × (fault ≡ faults.BadField)
 IsSenseless n (polygon_line pairs) fault = ⊥
+IsSenseless n (table_line pairs) fault = ⊥
 IsSenseless n (glue_line one two) fault = ⊥
 IsSenseless n (command_line command) fault = HasZeroDirection command × (fault ≡ faults.ZeroDirection n)
 IsSenseless n end_line fault = ⊥
@@ -145,8 +158,9 @@ IsCommand n (flow pair) command = (v : PlaneVector) × IsVector pair v × (comma
 
 -- the progress after the line with the number n: the draft with the statement added
 abbrev pub Adds : ℕ → Draft → Statement → Progress → Type 0
-Adds n draft (field_line d) after = after ≡ drafted (record { d = d; polygons = []; glues = []; commands = [] })
+Adds n draft (field_line d) after = after ≡ drafted (record { d = d; table = None; polygons = []; glues = []; commands = [] })
 Adds n draft (polygon_line pairs) after = (points : List Point) × ArePoints pairs points × (after ≡ drafted (record draft { polygons = draft.polygons ++ points ∷ [] }))
+Adds n draft (table_line pairs) after = (points : List Point) × ArePoints pairs points × (after ≡ drafted (record draft { table = Some points }))
 Adds n draft (glue_line one two) after = after ≡ drafted (record draft { glues = draft.glues ++ (record { line = n; one = one; two = two }) ∷ [] })
 Adds n draft (command_line stated) after = (command : Command) × IsCommand n stated command × (after ≡ drafted (record draft { commands = draft.commands ++ command ∷ [] }))
 Adds n draft end_line after = after ≡ ended draft

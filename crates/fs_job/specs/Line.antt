@@ -11,7 +11,7 @@ use Rattle.fs_job.specs.declared.statements.Line.TheVariants as lines
 use Rattle.fs_job.specs.declared.statements.Stated.{Stated}
 use Rattle.fs_job.specs.declared.statements.Stated.TheVariants as stated
 use Rattle.fs_job.specs.Pieces.{pieces, words_of}
-use Rattle.fs_job.specs.Statement.{Pair, StatedCommand, check, stratum, segment, delaunay, cells, saddles, flow, Statement, field_line, polygon_line, glue_line, command_line, end_line, SpellsNumeral, SpellsCorner, IsPair, ArePairs, NumberText, pair_texts, whole_texts, argument_texts}
+use Rattle.fs_job.specs.Statement.{Pair, StatedCommand, check, stratum, segment, delaunay, cells, saddles, flow, Statement, field_line, polygon_line, table_line, glue_line, command_line, end_line, SpellsNumeral, SpellsCorner, IsPair, ArePairs, NumberText, pair_texts, whole_texts, argument_texts}
 use Rattle.fs_job.specs.Draft.{HasBadNumber, number_fault, IsPoint, IsOrigin, IsVector}
 
 -- what was found has P; where nothing was found, nothing has P
@@ -67,6 +67,7 @@ command_of (stated.Flow pair) = flow (pair_of pair.now)
 abbrev pub statement_of : Line → Statement
 statement_of (lines.Field d) = field_line d
 statement_of (lines.Polygon pairs) = polygon_line (pairs_of (words_of pairs.words.now))
+statement_of (lines.Table pairs) = table_line (pairs_of (words_of pairs.words.now))
 statement_of (lines.Glue one two) = glue_line one two
 statement_of (lines.Command stated) = command_line (command_of stated)
 statement_of lines.End = end_line
@@ -77,9 +78,10 @@ HasPair (stated.Segment start pair) = IsPair pair.now (pair_of pair.now)
 HasPair (stated.Flow pair) = IsPair pair.now (pair_of pair.now)
 HasPair command = Unit {0}
 
--- each word of a vector is a pair, and those after `polygon` are counted
+-- each word of a vector is a pair, and those after `polygon` or `table` are counted
 abbrev pub HasPairs : Line → Type 0
 HasPairs (lines.Polygon pairs) = ArePairs (words_of pairs.words.now) (pairs_of (words_of pairs.words.now)) × (pairs.count ≡ length (words_of pairs.words.now))
+HasPairs (lines.Table pairs) = ArePairs (words_of pairs.words.now) (pairs_of (words_of pairs.words.now)) × (pairs.count ≡ length (words_of pairs.words.now))
 HasPairs (lines.Command stated) = HasPair stated
 HasPairs line = Unit {0}
 

@@ -9,7 +9,7 @@ use Rattle.fs_job.specs.Draft.{Draft, Progress, nothing, headed, drafted, ended,
 
 -- the draft that the reader holds
 abbrev pub kept_draft : DraftJob → Draft
-kept_draft draft = record { d = draft.field.d; polygons = draft.shape.polygons; glues = draft.shape.glues; commands = draft.commands }
+kept_draft draft = record { d = draft.field.d; table = draft.table; polygons = draft.shape.polygons; glues = draft.shape.glues; commands = draft.commands }
 
 -- how far the lines have come, by what the reader holds
 abbrev pub progress_of : Stage → Progress

@@ -49,6 +49,7 @@ pub data StatedCommand : Type 0 where
 pub data Statement : Type 0 where
   field_line : ℕ → Statement
   polygon_line : List Pair → Statement
+  table_line : List Pair → Statement
   glue_line : Corner → Corner → Statement
   command_line : StatedCommand → Statement
   end_line : Statement
@@ -72,6 +73,7 @@ SpellsCommand words (flow pair) = (pair_text : List ℕ) × (words ≡ codes "fl
 abbrev pub SpellsStatement : List (List ℕ) → Statement → Type 0
 SpellsStatement words (field_line d) = (digits : List ℕ) × (words ≡ codes "field" ∷ digits ∷ []) × SpellsNumeral 4 digits d
 SpellsStatement words (polygon_line pairs) = (rest : List (List ℕ)) × (words ≡ codes "polygon" ∷ rest) × ArePairs rest pairs
+SpellsStatement words (table_line pairs) = (rest : List (List ℕ)) × (words ≡ codes "table" ∷ rest) × ArePairs rest pairs
 SpellsStatement words (glue_line one two) =
     (one_text : List ℕ) × (two_text : List ℕ) × (words ≡ codes "glue" ∷ one_text ∷ two_text ∷ []) × SpellsCorner one_text one × SpellsCorner two_text two
 SpellsStatement words (command_line command) = (word : List ℕ) × (rest : List (List ℕ)) × (words ≡ word ∷ rest) × Contains command_words word × SpellsCommand words command
@@ -104,6 +106,7 @@ argument_texts (flow pair) = whole_texts pair
 abbrev pub number_texts : Statement → List NumberText
 number_texts (field_line d) = []
 number_texts (polygon_line pairs) = flat_map pair_texts pairs
+number_texts (table_line pairs) = flat_map pair_texts pairs
 number_texts (glue_line one two) = []
 number_texts (command_line command) = argument_texts command
 number_texts end_line = []

@@ -2,14 +2,14 @@
 
 ghost use Rattle.std.specs.Prelude.{◌≡◌, length};
 ghost use Rattle.fs_job.specs.Pieces.{words_of};
-ghost use Rattle.fs_job.specs.Statement.{ArePairs, field_line, polygon_line, glue_line, command_line, end_line};
+ghost use Rattle.fs_job.specs.Statement.{ArePairs, field_line, polygon_line, table_line, glue_line, command_line, end_line};
 ghost use Rattle.fs_job.specs.Draft.{headed, drafted, StatementLeads};
 ghost use Rattle.fs_job.specs.Stage.{kept_draft, ReturnsOutcome};
 ghost use Rattle.fs_job.specs.Line.{pairs_of, command_of, statement_of, HasPair, HasPairs};
 
 use crate::arguments::read_command;
 use crate::draft_job::DraftJob;
-use crate::job::JobStop;
+use crate::job::{JobStop, MOST_TABLE_SIDES};
 use crate::points::read_points;
 use crate::statements::{Line, Pairs, Stated};
 use fs_gluing::{Fault, Glue, MOST_POLYGONS, MOST_SIDES};
@@ -66,7 +66,7 @@ fn add_polygon(
     requires count { pairs.count ≡ length (words_of pairs.words.now) }
     ensures { ReturnsOutcome (StatementLeads number (drafted (kept_draft draft)) (polygon_line (pairs_of (words_of pairs.entry.words.now)))) result }
 {
-    if !draft.commands.is_empty() {
+    if !draft.takes_polygons() {
         return Err(bad_line(number));
     }
     if draft.shape.polygons.len() >= MOST_POLYGONS || pairs.count > MOST_SIDES - draft.sides {
@@ -78,11 +78,32 @@ fn add_polygon(
     Ok(Stage::Drafted(draft))
 }
 
+// A table line, whose words are pairs.
+fn add_table(
+    alloc: Global,
+    mut draft: DraftJob,
+    number: u32,
+    pairs: Pairs<'_>,
+) -> Result<Stage, JobStop>
+    requires pairs { ArePairs (words_of pairs.words.now) (pairs_of (words_of pairs.words.now)) }
+    requires count { pairs.count ≡ length (words_of pairs.words.now) }
+    ensures { ReturnsOutcome (StatementLeads number (drafted (kept_draft draft)) (table_line (pairs_of (words_of pairs.entry.words.now)))) result }
+{
+    if !draft.takes_table() {
+        return Err(bad_line(number));
+    }
+    if pairs.count > MOST_TABLE_SIDES {
+        return Err(too_many(number));
+    }
+    draft.table = Some(read_points(alloc, number, pairs)?);
+    Ok(Stage::Drafted(draft))
+}
+
 // A glue line.
 fn add_glue(mut draft: DraftJob, number: u32, one: Corner, two: Corner) -> Result<Stage, JobStop>
     ensures { ReturnsOutcome (StatementLeads number (drafted (kept_draft draft)) (glue_line one two)) result }
 {
-    if !draft.commands.is_empty() {
+    if !draft.takes_polygons() {
         return Err(bad_line(number));
     }
     draft.shape.glues.push(Glue {
@@ -98,7 +119,7 @@ fn add_command(mut draft: DraftJob, number: u32, stated: Stated<'_>) -> Result<S
     requires { HasPair stated }
     ensures { ReturnsOutcome (StatementLeads number (drafted (kept_draft draft)) (command_line (command_of stated.entry))) result }
 {
-    if draft.shape.polygons.is_empty() {
+    if !draft.describes_surface() {
         return Err(bad_line(number));
     }
     if draft.commands.len() >= MOST_COMMANDS {
@@ -115,7 +136,7 @@ fn add_command(mut draft: DraftJob, number: u32, stated: Stated<'_>) -> Result<S
 fn end(draft: DraftJob, number: u32) -> Result<Stage, JobStop>
     ensures { ReturnsOutcome (StatementLeads number (drafted (kept_draft draft)) end_line) result }
 {
-    if draft.shape.polygons.is_empty() {
+    if !draft.describes_surface() {
         return Err(bad_line(number));
     }
     Ok(Stage::Ended(draft))
@@ -133,6 +154,7 @@ pub fn add_line(
 {
     match line {
         Line::Polygon(pairs) => add_polygon(alloc, draft, number, pairs),
+        Line::Table(pairs) => add_table(alloc, draft, number, pairs),
         Line::Glue(one, two) => add_glue(draft, number, one, two),
         Line::Command(stated) => add_command(draft, number, stated),
         Line::End => end(draft, number),

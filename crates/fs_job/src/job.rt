@@ -28,11 +28,17 @@ pub enum Command {
     Flow { v: V2 },
 }
 
+/// The most sides of a table.
+pub const MOST_TABLE_SIDES: usize = 42;
+
 /// How a job describes its surface.
 #[derive(Drop)]
 pub enum Form {
     /// By polygons and their glued sides, unscaled.
     Polygons(Shape),
+    /// By the sides of a billiard table, in order, unscaled, at most 42 of them: the surface is the
+    /// unfolding of the table.
+    Table(Sequence<Point>),
 }
 
 /// A job: the field of its numbers, its surface, and the commands in order.

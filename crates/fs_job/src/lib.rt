@@ -14,7 +14,7 @@ mod sites;
 mod statements;
 mod words;
 
-pub use job::{Command, Form, Job, JobStop};
+pub use job::{Command, Form, Job, JobStop, MOST_TABLE_SIDES};
 pub use laws::job_or_fault;
 pub use reading::read_job;
 pub use sites::print_site;

@@ -1,16 +1,15 @@
 // `read_job`: the job that bytes are, or their first fault.
 
 ghost use Rattle.fs_io.specs.Whole.{most_bytes};
-ghost use Rattle.std.specs.Prelude.{◌≡◌, ◌≢◌, ◌⊎◌, ◌≤◌, [], false, length, Ok, Err, IfOk, IfErr, IsTrue};
+ghost use Rattle.std.specs.Prelude.{◌≡◌, ◌≢◌, ◌⊎◌, ◌≤◌, [], length, Ok, Err, IfOk, IfErr, IsTrue};
 ghost use Rattle.std.specs.List.{AllByRecursion};
 ghost use Rattle.fs_gluing.specs.declared.faults.Fault.{Fault};
-ghost use Rattle.fs_gluing.specs.Shape.{IsWithinLimits};
 ghost use Rattle.fs_job.specs.Pieces.{IsText, words_of};
 ghost use Rattle.fs_job.specs.declared.job.Job.{Job};
 ghost use Rattle.fs_job.specs.Draft.{Draft, nothing};
 ghost use Rattle.fs_job.specs.Grammar.{Leads, IsJob, IsFirstFault};
 ghost use Rattle.fs_job.specs.Stage.{ReturnsOutcome, progress_of};
-ghost use Rattle.fs_job.specs.Reading.{job_draft, form_shape, HasDirection};
+ghost use Rattle.fs_job.specs.Reading.{job_draft, IsFormWithinLimits, HasDirection};
 
 use crate::drafts::{Stage, add_line, begin};
 use crate::job::{Job, JobStop};
@@ -65,8 +64,7 @@ fn step(
 fn read_lines(alloc: Global, bytes: &[u8]) -> Result<Job, JobStop>
     requires { length bytes.now ≤ most_bytes }
     ensures job { IfOk result (λ job. IsJob bytes.now (job_draft job)) }
-    ensures limits { IfOk result (λ job. IsWithinLimits (form_shape job.form)) }
-    ensures unmarked { IfOk result (λ job. (form_shape job.form).straight ≡ false) }
+    ensures limits { IfOk result (λ job. IsFormWithinLimits job.form) }
     ensures fault { IfErr result (λ e. (e ≡ JobStop.NoMemory)
         ⊎ ((fault : Fault) × (e ≡ JobStop.Fault fault) × IsFirstFault bytes.now fault)) }
 {
@@ -93,21 +91,20 @@ fn read_lines(alloc: Global, bytes: &[u8]) -> Result<Job, JobStop>
 /// It fails exactly where they are no job, by the first fault, line by line, and on a line in this
 /// order. `NotAscii`, a byte other than a tab and those from the space to the tilde. `BadHeader`, a
 /// first line that isn't `flatsurf 1`. `BadLine`, a line that states nothing that is allowed
-/// there. `TooMany`, a 257th polygon or command, or a 1,025th side. `BadNumber` or `Wide`, the first
-/// number that isn't read. `BadField`, a d that isn't squarefree or not in 2 to 999; or
-/// `ZeroDirection`, a direction 0,0. `NoEnd` where no line has a fault and `end` doesn't come.
-/// `NoMemory` may come at any time.
+/// there. `TooMany`, a 257th polygon or command, a 1,025th side, or the 43rd pair of a table.
+/// `BadNumber` or `Wide`, the first number that isn't read. `BadField`, a d that isn't squarefree
+/// or not in 2 to 999; or `ZeroDirection`, a direction 0,0. `NoEnd` where no line has a fault and
+/// `end` doesn't come. `NoMemory` may come at any time.
 pub fn read_job(alloc: Global, bytes: &[u8]) -> Result<Job, JobStop>
     requires { length bytes.now ≤ most_bytes }
     ensures job { IfOk result (λ job. IsJob bytes.now (job_draft job)) }
     // Where they are a job, it is the one that is read.
     ensures read { (draft : Draft) → IsJob bytes.now draft
         → ((job : Job) × (result ≡ Ok job) × (job_draft job ≡ draft)) ⊎ (result ≡ Err JobStop.NoMemory) }
-    ensures limits { IfOk result (λ job. IsWithinLimits (form_shape job.form)) }
+    // It is within the limits, and allows no straight corner.
+    ensures limits { IfOk result (λ job. IsFormWithinLimits job.form) }
     // No direction is 0,0.
     ensures directions { IfOk result (λ job. AllByRecursion HasDirection job.commands) }
-    // No straight corner is allowed.
-    ensures unmarked { IfOk result (λ job. (form_shape job.form).straight ≡ false) }
     ensures fault { IfErr result (λ e. (e ≡ JobStop.NoMemory)
         ⊎ ((fault : Fault) × (e ≡ JobStop.Fault fault) × IsFirstFault bytes.now fault)) }
     // Where they have a first fault, it is the one that is returned.

@@ -13,7 +13,7 @@ use fs_plane::Corner;
 // The most digits of d, and of the two numbers of a corner.
 const MOST_DIGITS: usize = 4;
 
-// The words after the first one of a polygon line, each of which is a pair, and their number.
+// The words after the first one of a polygon or table line, each of which is a pair, and their number.
 #[derive(Clone, Copy)]
 pub struct Pairs<'a> {
     pub words: &'a [u8],
@@ -37,6 +37,7 @@ pub enum Stated<'a> {
 pub enum Line<'a> {
     Field(u16),
     Polygon(Pairs<'a>),
+    Table(Pairs<'a>),
     Glue(Corner, Corner),
     Command(Stated<'a>),
     End,
@@ -75,8 +76,8 @@ fn field_line(words: &[u8]) -> Option<u16>
     numeral(only_word(words)?)
 }
 
-// The pairs after the first word of a polygon line.
-fn polygon_line(words: &[u8]) -> Option<Pairs<'_>>
+// The pairs after the first word of a polygon or table line.
+fn pairs_line(words: &[u8]) -> Option<Pairs<'_>>
     ensures { MatchOption result
         ((pairs : List Pair) → ¬ ArePairs (words_of words.now) pairs)
         (λ pairs. (pairs.words.now ≡ words.now) × ArePairs (words_of words.now) (pairs_of (words_of words.now))
@@ -194,7 +195,10 @@ pub fn read_line(line: &[u8]) -> Option<Line<'_>>
         return Some(Line::Glue(one, two));
     }
     if word == b"polygon".as_slice() {
-        return Some(Line::Polygon(polygon_line(rest)?));
+        return Some(Line::Polygon(pairs_line(rest)?));
+    }
+    if word == b"table".as_slice() {
+        return Some(Line::Table(pairs_line(rest)?));
     }
     if word == b"field".as_slice() {
         return Some(Line::Field(field_line(rest)?));

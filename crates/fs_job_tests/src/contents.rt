@@ -37,7 +37,9 @@ fn expect_glues(rt: &impl Abort, glues: &[Glue]) {
 
 // That a job has a shape with these polygons and glue lines.
 fn expect_form(rt: &impl Abort, form: &Form) {
-    let Form::Polygons(shape) = form;
+    let Form::Polygons(shape) = form else {
+        panic!(rt; "no polygons");
+    };
     assert!(rt; !shape.straight);
     expect_polygons(rt, shape.polygons.as_slice());
     expect_glues(rt, shape.glues.as_slice());

@@ -22,7 +22,7 @@ const SQUARE: [&str; 7] = [
 
 // What replaces one of its lines, numbered from 1, and the name of the result. A fault that has
 // a line has this one.
-static CHANGES: [(usize, &str, &str); 167] = [
+static CHANGES: [(usize, &str, &str); 166] = [
     (1, "Flatsurf 1", "BadHeader"),
     (1, "flatsurf 1 1", "BadHeader"),
     (1, "flatsurf 3", "BadHeader"),
@@ -65,7 +65,6 @@ static CHANGES: [(usize, &str, &str); 167] = [
     (3, "polygon 1;0 0,1 -1,0 0,-1", "BadLine"),
     (3, "polygon x,0 1", "BadLine"),
     (3, "polygons 1,0 0,1 -1,0 0,-1", "BadLine"),
-    (3, "table 1,0 0,1", "BadLine"),
     (3, "polygon , 0,1 -1,0 0,-1", "BadNumber"),
     (3, "polygon ,1 0,1 -1,0 0,-1", "BadNumber"),
     (3, "polygon -,0 0,1 -1,0 0,-1", "BadNumber"),

@@ -9,3 +9,5 @@ mod contents;
 mod jobs;
 #[cfg(test)]
 mod segment_jobs;
+#[cfg(test)]
+mod table_jobs;

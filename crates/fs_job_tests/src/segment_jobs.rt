@@ -1,6 +1,6 @@
 // Jobs with `segment` lines: which are read, what they say, and the first fault of the others.
 
-use crate::common::expect_vector;
+use crate::common::{expect_vector, stop_of};
 use fs_gluing::Fault;
 use fs_job::{Command, JobStop, read_job};
 use fs_plane::Corner;
@@ -136,15 +136,6 @@ static FAULTS: [(&str, Fault); 11] = [
         Fault::BadNumber { line: 4 },
     ),
 ];
-
-// Why a text is no job; `None` where it is one.
-fn stop_of(rt: &impl Abort, alloc: Global, text: &[u8]) -> Option<JobStop> {
-    assert!(rt; text.len() <= 1_048_576);
-    match read_job(alloc, text) {
-        Ok(_) => None,
-        Err(stop) => Some(stop),
-    }
-}
 
 // A job whose fourth line is this one.
 fn with_line(alloc: Global, line: &str) -> Result<Vec<u8>, AllocError> {

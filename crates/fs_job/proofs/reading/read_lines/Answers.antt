@@ -4,7 +4,7 @@ use Rattle.fs_gluing.specs.declared.faults.Fault.TheVariants.{NoEnd}
 use Rattle.fs_job.specs.Stage.{progress_of}
 use Rattle.fs_job.proofs.LineBytes.{lines_text, next_text}
 use Rattle.fs_job.proofs.TextLines.{lines_left, bytes_left, lines_left-none, lines_left-next, bytes_left-fewer}
-use Rattle.fs_job.proofs.JobLines.{led_to_start, led_to_next, no_end_at_end, polygon_at_end_after}
+use Rattle.fs_job.proofs.JobLines.{led_to_start, led_to_next, no_end_at_end, surface_at_end_after}
 use Rattle.fs_job.proofs.LineOutcomes.{first_fault_by_line, not_ended, not_start}
 use Rattle.fs_job.proofs.reading.read_lines.Goals as goal
 
@@ -34,7 +34,7 @@ loop-rest-preserved c =
     let n = c.loop-rest.number in
     record {
       led = led_to_next c.args.bytes.now (lines_left c.loop-rest.rest) (lines_left c.next_line.result.1) c.next_line.result.0.now n (progress_of c.loop-rest.stage) (progress_of c.in_ok-stage.stage) i.led next c.in_ok-stage.ensures;
-      ready = polygon_at_end_after (n + 1) (progress_of c.loop-rest.stage) c.next_line.result.0.now (progress_of c.in_ok-stage.stage) i.ready c.in_ok-stage.ensures;
+      ready = surface_at_end_after (n + 1) (progress_of c.loop-rest.stage) c.next_line.result.0.now (progress_of c.in_ok-stage.stage) i.ready c.in_ok-stage.ensures;
       text = λ t. (next_text (lines_left c.loop-rest.rest) (lines_left c.next_line.result.1) c.next_line.result.0.now next (i.text t)).1;
       few =
           let left : bytes_left c.loop-rest.rest ≡ length c.in-Some.text.now + 1 = ap bytes_left c.in-Some.is in

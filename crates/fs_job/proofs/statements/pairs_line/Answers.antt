@@ -1,7 +1,7 @@
 use Rattle.std.proofs.Common.{arith}
 use Rattle.fs_job.specs.Pieces.{words_of}
 use Rattle.fs_job.proofs.Pairs.{pair_of_word, pairs_before_next, not_pairs}
-use Rattle.fs_job.proofs.statements.polygon_line.Goals as goal
+use Rattle.fs_job.proofs.statements.pairs_line.Goals as goal
 
 pub returns-in_err-cut_once : goal.returns-in_err-cut_once
 returns-in_err-cut_once c = rw c.from_residual.ensures

@@ -1,7 +1,7 @@
 use Rattle.std.proofs.Common.{◌+◌, ◌≤◌, length}
 use Rattle.fs_job.specs.Pieces.{words_of}
 use Rattle.fs_job.proofs.Pairs.{PairsBefore}
-use Rattle.fs_job.proofs.statements.polygon_line.Given as goal
+use Rattle.fs_job.proofs.statements.pairs_line.Given as goal
 
 -- the words so far are pairs, and counted
 abbrev pub invariant-loop-word : goal.invariant-loop-word
