@@ -1,0 +1,4 @@
+pub mod WholeFractions
+pub mod RectanglesInTurn
+pub mod LinesInTurn
+pub mod StaircaseLimits
