@@ -1,4 +1,4 @@
-// Tables whose unfolding overflows: the first site, by the table's side or the product, and the place; and tables that just fit.
+// Tables whose unfolding overflows, with the first site: the table's side or the product, and the place. Tables that just fit.
 // The site `Copy` isn't tested: no table is known that reaches it.
 
 use crate::common::{Row, SHAPE, expect_rows};
