@@ -21,20 +21,42 @@ use Rattle.fs_job.specs.Draft.{Draft}
 use Rattle.fs_job.specs.Grammar.{IsJob, IsFirstFault}
 use Rattle.fs_report.specs.Answers.{Answers, HasCorner}
 use Rattle.fs_report.specs.Text.{fault_line}
-use Rattle.fs_report.proofs.AnswersUnique.{answer_unique}
 use Rattle.fs_cli.specs.declared.outcome.Status.{Status}
 use Rattle.fs_cli.specs.declared.outcome.Status.TheVariants as status
-use Rattle.fs_cli.specs.Answer.{AnswersJob, AnswersCommands, no_such_corner, each_answered, stated_line, IsAnswered, too_long, no_job, not_unfolded, answered, DescribesShape, AnswersShape, not_built, built, BeginsEach, stop_line, stop_status, AnswersAll, status_of, IsWhole, IsBroken}
-use Rattle.fs_cli.specs.Words.{GiveBudget}
+use Rattle.fs_cli.specs.Answer.{AnswersJob, AnswersCommands, no_such_corner, each_answered, stated_line, AnswersStaircase, AnswersRequest, IsAnswered, too_long, no_job, not_unfolded, answered, DescribesShape, AnswersShape, not_built, built, BeginsEach, stop_line, stop_status, AnswersAll, status_of, IsWhole, IsBroken}
+use Rattle.fs_cli.specs.declared.words.Request.{Request}
+use Rattle.fs_cli.specs.declared.words.Staircase.{Staircase}
+use Rattle.fs_cli.specs.Words.{GiveRequest, AskForStaircase}
 use Rattle.fs_cli.specs.Writing.{Writes, IsThisText, HasStatus}
-use Rattle.fs_cli.proofs.CommandTexts.{commands_unique, only_each}
-use Rattle.fs_cli.proofs.WordBudgets.{budget_unique}
+use Rattle.fs_cli.proofs.CommandTexts.{IsOneForEach, commands_unique, only_each}
+use Rattle.fs_cli.proofs.Requests.{request_unique, same_staircase}
 use Rattle.fs_cli.proofs.AnsweredUnique.{JobLaw, only_long, only_fault, only_stop, only_shape}
 use Rattle.fs_cli.proofs.ShapeAnswers.{only_failure, only_built}
 
--- where the words give a budget, the status isn't `Usage`
-pub no_usage : {words : List (List ℕ)} {budget : ℕ} (result : Status) → GiveBudget words budget → result ≢ status.Usage → (result ≡ status.Usage) ↔ ((n : ℕ) → ¬ GiveBudget words n)
-no_usage {words} {budget} result given other = ((λ e. absurd (other e)), (λ none. absurd (none budget given)))
+-- where the words are admitted, the status isn't `Usage`
+pub no_usage : {words : List (List ℕ)} {request : Request} (result : Status) → GiveRequest words request → result ≢ status.Usage → (result ≡ status.Usage) ↔ ((other : Request) → ¬ GiveRequest words other)
+no_usage {words} {request} result given other = ((λ e. absurd (other e)), (λ none. absurd (none request given)))
+
+-- ---- what an answer is, by what the words ask for
+
+module _ {words : List (List ℕ)} {request : Request} (given : GiveRequest words request) {bytes output : List ℕ} {r : Status} where
+  -- an answer is one to what they ask for
+  answer_of : IsAnswered words bytes output r → AnswersRequest request.budget request.staircase bytes output r
+  answer_of a = subst (λ (q : Request). AnswersRequest q.budget q.staircase bytes output r) (request_unique words a.request request a.given given) a.answer
+
+  -- to a job
+  pub job_answer : request.staircase ≡ None → IsAnswered words bytes output r → AnswersJob request.budget bytes output r
+  job_answer none a = subst (λ (o : Option Staircase). AnswersRequest request.budget o bytes output r) none (answer_of a)
+
+  pub answers_job : request.staircase ≡ None → AnswersJob request.budget bytes output r → IsAnswered words bytes output r
+  answers_job none a = record { request = request; given = given; answer = subst (λ (o : Option Staircase). AnswersRequest request.budget o bytes output r) (sym none) a }
+
+  -- or to a staircase
+  pub staircase_answer : (staircase : Staircase) → request.staircase ≡ Some staircase → IsAnswered words bytes output r → AnswersStaircase request.budget staircase output r
+  staircase_answer staircase is a = subst (λ (o : Option Staircase). AnswersRequest request.budget o bytes output r) is (answer_of a)
+
+  pub answers_staircase : (staircase : Staircase) → request.staircase ≡ Some staircase → AnswersStaircase request.budget staircase output r → IsAnswered words bytes output r
+  answers_staircase staircase is a = record { request = request; given = given; answer = subst (λ (o : Option Staircase). AnswersRequest request.budget o bytes output r) (sym is) a }
 
 -- nor is it that of an answer, whole or broken off
 pub answer_no_usage : (result : Status) → IsWhole result ⊎ IsBroken result → result ≢ status.Usage
@@ -45,40 +67,48 @@ pub nothing_begins : (words : List (List ℕ)) (old held : Option (List ℕ)) �
 nothing_begins words None held = tt
 nothing_begins words (Some bytes) held = ([], λ output result answered. (output, refl), Appends-nil held)
 
--- bytes that are too many
-pub too_long_begins : (words : List (List ℕ)) (old new : Option (List ℕ)) (taken : List ℕ) (held held' : Option (List ℕ)) → Consumes old new taken → length taken ≡ most_bytes + 1
-    → (prefix : List ℕ) × BeginsEach (IsThisText (fault_line TooLong) status.Refused) prefix × Appends held held' prefix
-    → IfSome old (λ bytes. (prefix : List ℕ) × BeginsEach (IsAnswered words bytes) prefix × Appends held held' prefix)
-too_long_begins words None new taken held held' c many wrote = tt
-too_long_begins words (Some bytes) None taken held held' c many wrote = absurd c
-too_long_begins words (Some bytes) (Some rest) taken held held' c many wrote =
-    let long : most_bytes < length bytes = omega (arith, ap length c, length-append taken rest) in
-    (wrote.0, λ output r answered. wrote.1 output r (only_long answered.budget bytes long output r answered.answer), wrote.2)
+-- ---- bytes that are too many
 
--- bytes that are too many are refused
-pub too_long_whole : (words : List (List ℕ)) (budget : ℕ) (old new : Option (List ℕ)) (taken : List ℕ) (held held' : Option (List ℕ)) (result : Status) → GiveBudget words budget → Consumes old new taken
-    → length taken ≡ most_bytes + 1 → (output : List ℕ) × IsThisText (fault_line TooLong) status.Refused output result × Appends held held' output
-    → IfSome old (λ bytes. (output : List ℕ) × IsAnswered words bytes output result × Appends held held' output)
-too_long_whole words budget None new taken held held' result given c many wrote = tt
-too_long_whole words budget (Some bytes) None taken held held' result given c many wrote = absurd c
-too_long_whole words budget (Some bytes) (Some rest) taken held held' result given c many wrote =
-    let long : most_bytes < length bytes = omega (arith, ap length c, length-append taken rest) in
-    (wrote.0, record { budget = budget; given = given; answer = too_long long wrote.1.1 wrote.1.0 }, wrote.2)
+module _ (words : List (List ℕ)) (request : Request) (given : GiveRequest words request) (no_staircase : request.staircase ≡ None) where
+  -- each answer to them begins with what begins the refusal
+  pub too_long_begins : (old new : Option (List ℕ)) (taken : List ℕ) (held held' : Option (List ℕ)) → Consumes old new taken → length taken ≡ most_bytes + 1
+      → (prefix : List ℕ) × BeginsEach (IsThisText (fault_line TooLong) status.Refused) prefix × Appends held held' prefix
+      → IfSome old (λ bytes. (prefix : List ℕ) × BeginsEach (IsAnswered words bytes) prefix × Appends held held' prefix)
+  too_long_begins None new taken held held' c many wrote = tt
+  too_long_begins (Some bytes) None taken held held' c many wrote = absurd c
+  too_long_begins (Some bytes) (Some rest) taken held held' c many wrote =
+      let long : most_bytes < length bytes = omega (arith, ap length c, length-append taken rest) in
+      (wrote.0, λ output r answered. wrote.1 output r (only_long request.budget bytes long output r (job_answer given no_staircase answered)), wrote.2)
 
--- bytes that are too many are refused only
-pub too_long_only : (words : List (List ℕ)) (old new : Option (List ℕ)) (taken : List ℕ) (result : Status) → Consumes old new taken → length taken ≡ most_bytes + 1 → result ≡ status.Refused
-    → IfSome old (λ bytes. (output : List ℕ) → (other : Status) → IsAnswered words bytes output other → other ≡ result)
-too_long_only words None new taken result c many is = tt
-too_long_only words (Some bytes) None taken result c many is = absurd c
-too_long_only words (Some bytes) (Some rest) taken result c many is =
-    let long : most_bytes < length bytes = omega (arith, ap length c, length-append taken rest) in
-    λ output other answered. (only_long answered.budget bytes long output other answered.answer).1 ∙ sym is
+  -- they are refused
+  pub too_long_whole : (old new : Option (List ℕ)) (taken : List ℕ) (held held' : Option (List ℕ)) (result : Status) → Consumes old new taken
+      → length taken ≡ most_bytes + 1 → (output : List ℕ) × IsThisText (fault_line TooLong) status.Refused output result × Appends held held' output
+      → IfSome old (λ bytes. (output : List ℕ) × IsAnswered words bytes output result × Appends held held' output)
+  too_long_whole None new taken held held' result c many wrote = tt
+  too_long_whole (Some bytes) None taken held held' result c many wrote = absurd c
+  too_long_whole (Some bytes) (Some rest) taken held held' result c many wrote =
+      let long : most_bytes < length bytes = omega (arith, ap length c, length-append taken rest) in
+      (wrote.0, answers_job given no_staircase (too_long long wrote.1.1 wrote.1.0), wrote.2)
+
+  -- and only so
+  pub too_long_only : (old new : Option (List ℕ)) (taken : List ℕ) (result : Status) → Consumes old new taken → length taken ≡ most_bytes + 1 → result ≡ status.Refused
+      → IfSome old (λ bytes. (output : List ℕ) → (other : Status) → IsAnswered words bytes output other → other ≡ result)
+  too_long_only None new taken result c many is = tt
+  too_long_only (Some bytes) None taken result c many is = absurd c
+  too_long_only (Some bytes) (Some rest) taken result c many is =
+      let long : most_bytes < length bytes = omega (arith, ap length c, length-append taken rest) in
+      λ output other answered. (only_long request.budget bytes long output other (job_answer given no_staircase answered)).1 ∙ sym is
 
 -- what was read to the end is all that was left
 pub all_read : (old new : Option (List ℕ)) (items : List ℕ) → Consumes old new items → IsAtEnd new → (P : List ℕ → Type 0) → P items → IfSome old P
 all_read None new items c e P p = tt
 all_read (Some bytes) None items c e P p = absurd c
 all_read (Some bytes) (Some rest) items c e P p = subst P (sym (c ∙ (ap (λ (ys : List ℕ). items ++ ys) e ∙ append-nil items))) p
+
+-- what holds of all bytes holds of those that are left
+pub of_each : (old : Option (List ℕ)) (P : List ℕ → Type 0) → ((bytes : List ℕ) → P bytes) → IfSome old P
+of_each None P each = tt
+of_each (Some bytes) P each = each bytes
 
 module _ (result : Status) (held held' : Option (List ℕ)) (faults faults' : ℕ) where
   -- two relations that mean the same texts
@@ -100,7 +130,7 @@ module _ (result : Status) (held held' : Option (List ℕ)) (faults faults' : �
       writes_meant (IsThisText text meant) N (λ output r just. subst (λ (t : List ℕ). N t r) (sym just.0) (subst (N text) (sym just.1) holds)) only
 
   -- where memory ran out nothing was written, which begins each text
-  writes_no_memory : (N : List ℕ → Status → Type 0) → Writes (IsThisText [] status.NoMemory) result held held' faults faults' → Writes N result held held' faults faults'
+  pub writes_no_memory : (N : List ℕ → Status → Type 0) → Writes (IsThisText [] status.NoMemory) result held held' faults faults' → Writes N result held held' faults faults'
   writes_no_memory N w = record {
     kinds = w.kinds;
     whole = λ whole. absurd (subst IsWhole ((w.whole whole).1.1) whole);
@@ -141,19 +171,19 @@ module _ (result : Status) (held held' : Option (List ℕ)) (faults faults' : �
 
   -- commands that are all answered
   pub writes_each : (s : GluedPolygons) (budget : ℕ) (commands : List Command) → IsSurface s → s.straight ≡ false → AllByRecursion (HasCorner s) commands
-      → Writes (HasStatus (AnswersAll s budget commands)) result held held' faults faults' → Writes (AnswersCommands s budget commands) result held held' faults faults'
+      → Writes (HasStatus (AnswersAll (Answers s budget) commands)) result held held' faults faults' → Writes (AnswersCommands s budget commands) result held held' faults faults'
   writes_each s budget commands surface strict all =
-      writes_meant (HasStatus (AnswersAll s budget commands)) (AnswersCommands s budget commands)
+      writes_meant (HasStatus (AnswersAll (Answers s budget) commands)) (AnswersCommands s budget commands)
       (λ output r means. each_answered means.0 all means.1 means.2)
       (λ output r means. only_each s budget surface strict commands all output r means)
 
-  -- the text of a command
-  pub writes_command : (s : GluedPolygons) (budget : ℕ) (command : Command) (text : List ℕ) (partial : Bool) (meant : Status) → IsSurface s → s.straight ≡ false → Answers s budget command text partial → meant ≡ status_of partial
-      → Writes (IsThisText text meant) result held held' faults faults' → Writes (HasStatus (Answers s budget command)) result held held' faults faults'
-  writes_command s budget command text partial meant surface strict answers is =
-      writes_just (HasStatus (Answers s budget command)) text meant (partial, answers, is)
+  -- the text of a command, of which there is one at most
+  pub writes_command : (Each : Command → List ℕ → Bool → Type 0) → IsOneForEach Each → (command : Command) (text : List ℕ) (partial : Bool) (meant : Status) → Each command text partial → meant ≡ status_of partial
+      → Writes (IsThisText text meant) result held held' faults faults' → Writes (HasStatus (Each command)) result held held' faults faults'
+  writes_command Each one_each command text partial meant answers is =
+      writes_just (HasStatus (Each command)) text meant (partial, answers, is)
       (λ output r means.
-      let one = answer_unique s budget command output text means.0 partial surface strict means.1 answers in
+      let one = one_each command output text means.0 partial means.1 answers in
       (one.0, means.2 ∙ (ap status_of one.1 ∙ sym is)))
 
   module _ (d : ℕ) (shape : Shape) (budget : ℕ) (commands : List Command) where
@@ -218,9 +248,23 @@ module _ (result : Status) (held held' : Option (List ℕ)) (faults faults' : �
         (λ output r means. answered draft shape few reads describes means)
         (only_shape law budget bytes draft shape few reads describes)
 
-  -- the answer to words that give the budget
-  pub writes_by_words : (words : List (List ℕ)) (budget : ℕ) (bytes : List ℕ) → GiveBudget words budget → Writes (AnswersJob budget bytes) result held held' faults faults'
+  -- the answer to words that ask for a job
+  pub writes_job : (words : List (List ℕ)) (request : Request) (bytes : List ℕ) → GiveRequest words request → request.staircase ≡ None → Writes (AnswersJob request.budget bytes) result held held' faults faults'
       → Writes (IsAnswered words bytes) result held held' faults faults'
-  writes_by_words words budget bytes given =
-      writes_meant (AnswersJob budget bytes) (IsAnswered words bytes) (λ output r answer. record { budget = budget; given = given; answer = answer })
-      (λ output r answered. subst (λ (n : ℕ). AnswersJob n bytes output r) (budget_unique words answered.budget budget answered.given given) answered.answer)
+  writes_job words request bytes given none =
+      writes_meant (AnswersJob request.budget bytes) (IsAnswered words bytes) (λ output r answer. answers_job given none answer) (λ output r answered. job_answer given none answered)
+
+  -- and to words that ask for a staircase
+  pub writes_staircase : (words : List (List ℕ)) (request : Request) (staircase : Staircase) (bytes : List ℕ) → GiveRequest words request → request.staircase ≡ Some staircase
+      → Writes (AnswersStaircase request.budget staircase) result held held' faults faults' → Writes (IsAnswered words bytes) result held held' faults faults'
+  writes_staircase words request staircase bytes given is =
+      writes_meant (AnswersStaircase request.budget staircase) (IsAnswered words bytes) (λ output r answer. answers_staircase given staircase is answer)
+      (λ output r answered. staircase_answer given staircase is answered)
+
+  -- of whichever staircase the words are said to ask for
+  pub writes_asked : (words : List (List ℕ)) (request : Request) (made : Staircase) → GiveRequest words request → request.staircase ≡ Some made → Writes (AnswersStaircase request.budget made) result held held' faults faults'
+      → (budget : ℕ) (staircase : Staircase) → AskForStaircase words budget staircase → Writes (AnswersStaircase budget staircase) result held held' faults faults'
+  writes_asked words request made given is w budget staircase asked =
+      let same = same_staircase given is budget staircase asked in
+      subst (λ (s : Staircase). Writes (AnswersStaircase budget s) result held held' faults faults') (sym same.1)
+      (subst (λ (n : ℕ). Writes (AnswersStaircase n made) result held held' faults faults') (sym same.0) w)

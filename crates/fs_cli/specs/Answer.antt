@@ -1,5 +1,6 @@
 -- The whole answer to words and the bytes of a job: what is written, and the status.
-use Rattle.std.specs.Prelude.{◌≡◌, ℕ, ◌<◌, ◌≤◌, Bool, false, ◌||◌, if◌then◌else◌, None, Some, Ok, Err, List, [], ◌∷◌, ◌++◌, length}
+use Rattle.std.specs.Prelude.{◌≡◌, ℕ, ◌<◌, ◌≤◌, Bool, false, ◌||◌, if◌then◌else◌, cond, eqb, Option, None, Some, Ok, Err, List, [], ◌∷◌, ◌++◌, length, codes}
+use Rattle.std.specs.Fmt.{decimal}
 use Rattle.std.specs.List.{AllByRecursion}
 use Rattle.fs_lists.specs.First.{IsFirstWithout}
 use Rattle.fs_io.specs.Whole.{most_bytes}
@@ -18,8 +19,11 @@ use Rattle.fs_job.specs.declared.job.Command.TheVariants as commands
 use Rattle.fs_job.specs.Draft.{Draft}
 use Rattle.fs_job.specs.Grammar.{IsJob, IsFirstFault}
 use Rattle.fs_report.specs.Answers.{Answers, HasCorner}
+use Rattle.fs_workload.specs.Staircase.{staircase_shape, staircase_commands}
 use Rattle.fs_report.specs.Text.{fault_line, build_line}
-use Rattle.fs_cli.specs.Words.{GiveBudget}
+use Rattle.fs_cli.specs.declared.words.Request.{Request}
+use Rattle.fs_cli.specs.declared.words.Staircase.{Staircase}
+use Rattle.fs_cli.specs.Words.{GiveRequest}
 use Rattle.fs_cli.specs.declared.outcome.Status.{Status}
 use Rattle.fs_cli.specs.declared.outcome.Status.TheVariants as status
 
@@ -55,10 +59,10 @@ pub record AreJoined (One Other : List ℕ → Bool → Type 0) (output : List �
   pub whole : output ≡ prefix ++ rest
   pub kind : partial ≡ prefix_partial || rest_partial
 
--- the answers to commands in order, one after the other, each within the budget
-abbrev pub AnswersAll : GluedPolygons → ℕ → List Command → List ℕ → Bool → Type 0
-AnswersAll s budget [] output partial = (output ≡ []) × (partial ≡ false)
-AnswersAll s budget (command ∷ commands) output partial = AreJoined (Answers s budget command) (AnswersAll s budget commands) output partial
+-- the answers to commands in order, one after the other, where this is the answer to each
+abbrev pub AnswersAll : (Command → List ℕ → Bool → Type 0) → List Command → List ℕ → Bool → Type 0
+AnswersAll Each [] output partial = (output ≡ []) × (partial ≡ false)
+AnswersAll Each (command ∷ commands) output partial = AreJoined (Each command) (AnswersAll Each commands) output partial
 
 -- the line of the job that states a command which names a corner
 abbrev pub stated_line : Command → ℕ
@@ -76,7 +80,7 @@ pub data AnswersCommands (s : GluedPolygons) (budget : ℕ) (commands : List Com
   no_such_corner : (command : Command) → IsFirstWithout (HasCorner s) commands command → result ≡ status.Refused → output ≡ fault_line (NoSuchSide (stated_line command))
       → AnswersCommands s budget commands output result
   -- the surface has them all, and each command is answered, in order
-  each_answered : (partial : Bool) → AllByRecursion (HasCorner s) commands → AnswersAll s budget commands output partial → result ≡ status_of partial → AnswersCommands s budget commands output result
+  each_answered : (partial : Bool) → AllByRecursion (HasCorner s) commands → AnswersAll (Answers s budget) commands output partial → result ≡ status_of partial → AnswersCommands s budget commands output result
 
 -- what commands about the surface of a shape are answered with
 pub data AnswersShape (d : ℕ) (shape : Shape) (budget : ℕ) (commands : List Command) (output : List ℕ) (result : Status) : Type 0 where
@@ -99,11 +103,40 @@ pub data AnswersJob (budget : ℕ) (bytes output : List ℕ) (result : Status) :
   answered : (draft : Draft) → (shape : Shape) → length bytes ≤ most_bytes → IsJob bytes draft → DescribesShape draft shape → AnswersShape draft.d shape budget draft.commands output result
       → AnswersJob budget bytes output result
 
--- these words and these bytes are answered with this output and this status: the words give the budget
+-- a text up to its first line feed, which is kept
+abbrev pub first_line : List ℕ → List ℕ
+first_line [] = []
+first_line (byte ∷ bytes) = byte ∷ cond (eqb byte 10) [] (first_line bytes)
+
+-- the first line of the answer to a command about a surface, within a budget
+abbrev pub AnswersFirstLine : GluedPolygons → ℕ → Command → List ℕ → Bool → Type 0
+AnswersFirstLine s budget command line partial = (text : List ℕ) × Answers s budget command text partial × (line ≡ first_line text)
+
+-- the line that names a staircase
+abbrev pub staircase_line : Staircase → List ℕ
+staircase_line staircase = codes "staircase " ++ decimal staircase.rectangles ++ codes " seed " ++ decimal staircase.seed ++ 10 ∷ []
+
+-- a staircase is answered with this output and this status: its line, and the first line of the answer to each of its commands about its surface, within the budget
+pub record AnswersStaircase (budget : ℕ) (staircase : Staircase) (output : List ℕ) (result : Status) : Type 0 where
+  pub surface : GluedPolygons
+  pub is : IsSurface surface
+  pub shape : HasShape 2 (staircase_shape staircase.rectangles staircase.seed) surface
+  pub lines : List ℕ
+  pub partial : Bool
+  pub each : AnswersAll (AnswersFirstLine surface budget) staircase_commands lines partial
+  pub whole : output ≡ staircase_line staircase ++ lines
+  pub kind : result ≡ status_of partial
+
+-- what was asked for is answered: a staircase whatever the bytes are, else the bytes
+abbrev pub AnswersRequest : ℕ → Option Staircase → List ℕ → List ℕ → Status → Type 0
+AnswersRequest budget None bytes = AnswersJob budget bytes
+AnswersRequest budget (Some staircase) bytes = AnswersStaircase budget staircase
+
+-- these words and these bytes are answered with this output and this status
 pub record IsAnswered (words : List (List ℕ)) (bytes output : List ℕ) (result : Status) : Type 0 where
-  pub budget : ℕ
-  pub given : GiveBudget words budget
-  pub answer : AnswersJob budget bytes output result
+  pub request : Request
+  pub given : GiveRequest words request
+  pub answer : AnswersRequest request.budget request.staircase bytes output result
 
 -- the number of a status
 abbrev pub exit_code : Status → ℕ

@@ -2,13 +2,28 @@
 use Rattle.std.specs.Prelude.{◌≡◌, ◌≢◌, ℕ, ◌≤◌, ◌⊎◌, Bool, List, Option}
 use Rattle.std.specs.Io.KnownBytes.{Appends}
 use Rattle.fs_io.specs.Faults.{Rose}
+use Rattle.fs_gluing.specs.Surface.{GluedPolygons}
+use Rattle.fs_job.specs.declared.job.Command.{Command}
+use Rattle.fs_report.specs.Answers.{Answers}
+use Rattle.fs_cli.specs.declared.answering.Extent.{Extent}
+use Rattle.fs_cli.specs.declared.answering.Extent.TheVariants as extents
 use Rattle.fs_cli.specs.declared.outcome.Status.{Status}
 use Rattle.fs_cli.specs.declared.outcome.Status.TheVariants as status
-use Rattle.fs_cli.specs.Answer.{IsWhole, IsBroken, status_of, BeginsEach}
+use Rattle.fs_cli.specs.Answer.{IsWhole, IsBroken, first_line, AnswersFirstLine, status_of, BeginsEach}
 
 -- this text, with this status
 abbrev pub IsThisText : List ℕ → Status → List ℕ → Status → Type 0
 IsThisText text meant output result = (output ≡ text) × (result ≡ meant)
+
+-- what of a text is written, to this extent
+abbrev pub part_of : Extent → List ℕ → List ℕ
+part_of extents.Whole text = text
+part_of extents.FirstLine text = first_line text
+
+-- the answer to a command about a surface, within a budget, to this extent
+abbrev pub AnswersIn : Extent → GluedPolygons → ℕ → Command → List ℕ → Bool → Type 0
+AnswersIn extents.Whole s budget = Answers s budget
+AnswersIn extents.FirstLine s budget = AnswersFirstLine s budget
 
 -- such a text, with its status by whether it is partial
 abbrev pub HasStatus : (List ℕ → Bool → Type 0) → List ℕ → Status → Type 0

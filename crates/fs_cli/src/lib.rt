@@ -5,6 +5,7 @@ mod answering;
 mod laws;
 mod outcome;
 mod run;
+mod summary;
 mod words;
 
 pub use laws::one_answer;

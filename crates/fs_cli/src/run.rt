@@ -1,20 +1,23 @@
 // `flat`: a job read from a source and answered into a sink.
 
-ghost use Rattle.std.specs.Prelude.{◌≡◌, ◌↔◌, ◌≤◌, ℕ, List, false, length, map, IfSome, string_bytes};
+ghost use Rattle.std.specs.Prelude.{◌≡◌, ◌≢◌, ◌↔◌, ◌≤◌, ℕ, List, false, length, map, IfSome, string_bytes};
 ghost use Rattle.std.specs.Io.KnownBytes.{Appends, IsAtEnd, Keeps};
 ghost use Rattle.std.specs.List.{AllByRecursion};
 ghost use Rattle.fs_io.specs.Faults.{Rose};
 ghost use Rattle.fs_io.specs.Whole.{most_bytes, TakesPrefix};
 ghost use Rattle.fs_gluing.specs.Shape.{IsWithinLimits};
 ghost use Rattle.fs_job.specs.Reading.{HasDirection};
-ghost use Rattle.fs_cli.specs.Words.{most_budget, GiveBudget};
-ghost use Rattle.fs_cli.specs.Answer.{stop_line, stop_status, AnswersShape, AnswersJob, IsAnswered, IsWhole, IsBroken, BeginsEach};
+ghost use Rattle.fs_cli.specs.Words.{most_budget, GiveRequest, AskForStaircase};
+ghost use Rattle.fs_cli.specs.declared.words.Request.{Request};
+ghost use Rattle.fs_cli.specs.declared.words.Staircase.{Staircase};
+ghost use Rattle.fs_cli.specs.Answer.{stop_line, stop_status, AnswersShape, AnswersJob, AnswersStaircase, IsAnswered, IsWhole, IsBroken, BeginsEach};
 ghost use Rattle.fs_cli.specs.Writing.{Writes, IsThisText};
 
 use crate::answering::{answer_commands, refuse, stop_at};
 use crate::laws::one_answer;
 use crate::outcome::Status;
-use crate::words::find_budget;
+use crate::summary::summarize;
+use crate::words::find_request;
 use fs_gluing::{BuildStop, Fault, Shape, build};
 use fs_io::{ReadStop, Sink, Source, read_all};
 use fs_job::{Command, Form, JobStop, job_or_fault, read_job};
@@ -45,7 +48,7 @@ fn answer_shape<O: Sink>(
 }
 
 // Writes why a shape isn't built, or a table isn't unfolded.
-fn write_stop<O: Sink>(alloc: Global, stop: BuildStop, out: &mut O) -> Status
+pub(crate) fn write_stop<O: Sink>(alloc: Global, stop: BuildStop, out: &mut O) -> Status
     ensures { Writes (IsThisText (stop_line stop) (stop_status stop)) result (O.held out.old) (O.held out.new) (O.faults out.old) (O.faults out.new) }
 {
     match stop {
@@ -79,15 +82,20 @@ fn answer<O: Sink>(alloc: Global, budget: u32, bytes: &[u8], out: &mut O) -> Sta
     }
 }
 
-/// Reads a job, answers it, and says how that went.
+/// Reads a job, or makes a staircase, answers it, and says how that went.
 ///
-/// The words may be `--steps N` or `--steps=N`, N being 1 to 1,000,000 in one to nine decimal digits:
-/// each command may take N steps. Without words N is 100,000. `Usage` comes exactly for all other words.
+/// The words are options, each at most once, in any order, and each in two words or joined by = in one: `--steps N`,
+/// N being 1 to 1,000,000, lets each command take N steps, and without it N is 100,000; `--staircase K` and `--seed S`,
+/// which come together or not at all, K being 1 to 200, ask for a staircase. N, K and S are one to nine decimal digits.
+/// `Usage` comes exactly for all other words.
 ///
 /// A table is unfolded into the shape of a surface first. `Refused` writes the line of the first fault: that of the
 /// job, of its table, of its surface, or of the first command that names a corner which the surface doesn't have.
 /// `Partial` writes the line of the site where unfolding or building overflowed, or the answers to the commands in order, of which at least one isn't whole. `Done`
 /// writes the answers to the commands in order: nothing where there are none.
+///
+/// For a staircase nothing is read. Its line is written, and the first line of the answer to each of its commands; it is `Done`
+/// or `Partial` as the answers are.
 #[tactic(auto, using(crate::proofs::CallWrites::nothing_begins))]
 pub fn flat<I: Source, O: Sink>(
     alloc: Global,
@@ -96,7 +104,7 @@ pub fn flat<I: Source, O: Sink>(
     out: &mut O,
 ) -> Status
     // With words that aren't admitted nothing is read, written or counted.
-    ensures usage { (result ≡ Status.Usage) ↔ ((budget : ℕ) → ¬ GiveBudget (map string_bytes words.now) budget) }
+    ensures usage { (result ≡ Status.Usage) ↔ ((request : Request) → ¬ GiveRequest (map string_bytes words.now) request) }
     ensures untouched { result ≡ Status.Usage → (I.left input.new ≡ I.left input.old)
         × (I.faults input.new ≡ I.faults input.old) × (O.held out.new ≡ O.held out.old)
         × (O.faults out.new ≡ O.faults out.old) }
@@ -107,12 +115,21 @@ pub fn flat<I: Source, O: Sink>(
     // Each answer that the words and the bytes have is this one.
     ensures only { IsWhole result → IfSome (I.left input.old) (λ bytes.
         (output : List ℕ) → (other : Status) → IsAnswered (map string_bytes words.now) bytes output other → other ≡ result) }
-    // The source was read to its end, except for a text that is too long.
-    ensures end { IsWhole result → IfSome (I.left input.old) (λ bytes.
-        length bytes ≤ most_bytes → IsAtEnd (I.left input.new)) }
+    // For a job, the source was read to its end, except for a text that is too long.
+    ensures end { IsWhole result → ((budget : ℕ) (staircase : Staircase) → ¬ AskForStaircase (map string_bytes words.now) budget staircase)
+        → IfSome (I.left input.old) (λ bytes. length bytes ≤ most_bytes → IsAtEnd (I.left input.new)) }
     // Where the sink failed or memory ran out, the sink got a prefix of the answer.
     ensures broken { IsBroken result → IfSome (I.left input.old) (λ bytes.
         (prefix : List ℕ) × BeginsEach (IsAnswered (map string_bytes words.now) bytes) prefix × Appends (O.held out.old) (O.held out.new) prefix) }
+
+    // For a staircase nothing of the source was taken, and the answer is the same whatever it holds.
+    ensures nothing_taken { (budget : ℕ) (staircase : Staircase) → AskForStaircase (map string_bytes words.now) budget staircase
+        → (I.left input.new ≡ I.left input.old) × (I.faults input.new ≡ I.faults input.old) × (result ≢ Status.ReadFault) }
+    ensures staircase { (budget : ℕ) (staircase : Staircase) → AskForStaircase (map string_bytes words.now) budget staircase
+        → IsWhole result → (output : List ℕ) × AnswersStaircase budget staircase output result × Appends (O.held out.old) (O.held out.new) output }
+    ensures staircase_broken { (budget : ℕ) (staircase : Staircase) → AskForStaircase (map string_bytes words.now) budget staircase
+        → IsBroken result → (prefix : List ℕ) × BeginsEach (AnswersStaircase budget staircase) prefix × Appends (O.held out.old) (O.held out.new) prefix }
+
     ensures read_fault { result ≡ Status.ReadFault
         → Keeps (O.held out.old) (O.held out.new) × Rose (I.faults input.old) (I.faults input.new) }
     ensures write_fault { result ≡ Status.WriteFault → Rose (O.faults out.old) (O.faults out.new) }
@@ -127,13 +144,16 @@ pub fn flat<I: Source, O: Sink>(
     ensures input_count { I.faults input.old ≤ I.faults input.new }
     ensures out_count { O.faults out.old ≤ O.faults out.new }
 {
-    let Some(budget) = find_budget(words) else {
+    let Some(request) = find_request(words) else {
         return Status::Usage;
     };
     // Words and bytes have one answer, with one status.
     one_answer();
+    if let Some(staircase) = request.staircase {
+        return summarize(alloc, request.budget, staircase, out);
+    }
     match read_all(alloc, input) {
-        Ok(bytes) => answer(alloc, budget, &bytes, out),
+        Ok(bytes) => answer(alloc, request.budget, &bytes, out),
         Err(ReadStop::TooLong) => refuse(alloc, &Fault::TooLong, out),
         Err(ReadStop::ReadFault) => Status::ReadFault,
         Err(ReadStop::NoMemory) => Status::NoMemory,

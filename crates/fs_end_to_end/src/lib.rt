@@ -16,6 +16,8 @@ mod saddles;
 #[cfg(test)]
 mod segments;
 #[cfg(test)]
+mod staircases;
+#[cfg(test)]
 mod strata;
 #[cfg(test)]
 mod surfaces;

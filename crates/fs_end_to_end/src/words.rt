@@ -6,7 +6,7 @@ use fs_io::{MemSink, MemSource};
 use std::alloc::Global;
 use std::process::Abort;
 
-// Words that are admitted: none, or a budget from 1 to 1,000,000 in one to nine digits.
+// Words that are admitted and ask for a job: none, or a budget from 1 to 1,000,000 in one to nine digits.
 static ADMITTED: [&[&str]; 11] = [
     &[],
     &["--steps", "1"],
@@ -22,7 +22,7 @@ static ADMITTED: [&[&str]; 11] = [
 ];
 
 // Words that aren't.
-static REFUSED: [&[&str]; 44] = [
+static REFUSED: [&[&str]; 67] = [
     &[""],
     &["", ""],
     &["--"],
@@ -65,8 +65,31 @@ static REFUSED: [&[&str]; 44] = [
     &["--steps=5", "--steps=5"],
     &["--steps", "5", ""],
     &["--staircase", "3"],
-    &["--staircase", "3", "--seed", "1"],
-    &["--steps=5", "--staircase=3", "--seed=1"],
+    &["--staircase=3"],
+    &["--seed", "1"],
+    &["--seed=1"],
+    &["--steps", "5", "--seed", "1"],
+    &["--staircase", "3", "--steps=5"],
+    &["--staircase", "--seed", "1"],
+    &["--staircase", "3", "--seed"],
+    &["--staircase", "3", "1"],
+    &["--staircase=", "--seed=1"],
+    &["--staircase", "0", "--seed", "1"],
+    &["--staircase", "201", "--seed", "1"],
+    &["--staircase", "0000000003", "--seed", "1"],
+    &["--staircase", "3", "--seed", "0000000001"],
+    &["--staircase", "3", "--seed", "1000000000"],
+    &["--staircase", "3", "--seed", "-1"],
+    &["--staircase", "+3", "--seed", "1"],
+    &["--staircase", "3", "--seed", ""],
+    &["--staircase", "3", "--staircase", "3", "--seed", "1"],
+    &["--staircase", "3", "--seed", "1", "--seed=1"],
+    &["--staircase", "3", "--seed", "1", "--steps", "0"],
+    &["--staircase", "3", "--seed", "1", "check"],
+    &["--staircases", "3", "--seed", "1"],
+    &["--staircase", "3", "--seeds", "1"],
+    &["--staircase3", "--seed1"],
+    &["--staircase==3", "--seed=1"],
 ];
 
 // How a run over the unit square's job ends, with these words.
