@@ -4,3 +4,6 @@ pub mod LinesInTurn
 pub mod StaircaseLimits
 pub mod SidePartners
 pub mod SideLines
+pub mod RectangleTests
+pub mod WholeScaling
+pub mod StaircaseBuilds

@@ -1,5 +1,5 @@
 -- The glue lines of a staircase pass their tests, and glue each side to its partner.
-use Rattle.std.proofs.Common.{◌≡◌, ◌≢◌, ◌⊎◌, ℕ, Bool, true, false, suc, ◌<◌, cond, List, [], ◌∷◌, ◌++◌, length, map, filter, Contains, refl, sym, ap, ◌∙◌, subst, inl, inr, arith}
+use Rattle.std.proofs.Common.{◌≡◌, ◌≢◌, ◌⊎◌, ℕ, Bool, true, false, cond, List, [], ◌∷◌, ◌++◌, map, filter, Contains, refl, sym, ap, ◌∙◌, subst, inl, inr, arith}
 use Rattle.std.specs.List.{AllByRecursion}
 use Rattle.std.specs.Ordering.{is_lt}
 use Rattle.std.specs.declared.cmp.Ordering.{Ordering}
@@ -62,7 +62,7 @@ module _ (k : ℕ) where
 
   module _ (sides : List Corner) (all : (c : Corner) → IsSide k c → IsIn c sides) where
     -- each side is glued to its partner
-    pub pair_of_side : (c : Corner) → IsSide k c → IsPairOf (lines_of k sides) c (partner k c)
+    pair_of_side : (c : Corner) → IsSide k c → IsPairOf (lines_of k sides) c (partner k c)
     pair_of_side c is = elim (corner_cases c (partner k c)) [
       | inl same ↦ absurd (partner_other k c is same)
       | inr r ↦ elim r [

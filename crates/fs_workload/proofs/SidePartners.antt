@@ -1,12 +1,12 @@
 -- The partner of a side of a staircase is another side, whose partner the first one is.
-use Rattle.std.proofs.Common.{◌≡◌, ◌≢◌, ℕ, Bool, true, false, zero, suc, ◌+◌, ◌-◌, ◌*◌, ◌/◌, ◌%◌, ◌<◌, ◌≤◌, ltb, if◌then◌else◌, refl, sym, ap, ◌∙◌, subst, arith}
+use Rattle.std.proofs.Common.{◌≡◌, ◌≢◌, ℕ, Bool, true, false, zero, suc, ◌+◌, ◌-◌, ◌*◌, ◌/◌, ◌%◌, ◌<◌, ◌≤◌, ltb, if◌then◌else◌, refl, ap, subst, arith}
 use Rattle.std.proofs.lemmas.Bool.{eqb-true, eqb-false, ltb-true, ltb-false}
 use Rattle.fs_plane.specs.declared.corners.Corner.{Corner}
 use Rattle.fs_gluing.proofs.Base.Equality.{corner_eq}
 use Rattle.fs_workload.specs.Draws.{draw}
-use Rattle.fs_workload.specs.Staircase.{width, height, is_even, next_or_same, across, above, partner}
+use Rattle.fs_workload.specs.Staircase.{width, height, is_even, across, above, partner}
 
--- rectangle j is beside rectangle i of k, where 2m + r and 2m + r + 1 are side by side, or i itself where there is none
+-- rectangle j is the neighbour of rectangle i of k, where 2m + r and 2m + r + 1 are neighbours for each m, and a rectangle without one is its own
 pub data AreNeighbours (r k i j : ℕ) : Type 0 where
   next : i % 2 ≡ r → i + 1 < k → j ≡ i + 1 → AreNeighbours r k i j
   previous : i % 2 ≢ r → j + 1 ≡ i → AreNeighbours r k i j
