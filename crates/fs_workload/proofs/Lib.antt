@@ -2,3 +2,8 @@ pub mod WholeFractions
 pub mod RectanglesInTurn
 pub mod LinesInTurn
 pub mod StaircaseLimits
+pub mod SidePartners
+pub mod SideLines
+pub mod RectangleTests
+pub mod WholeScaling
+pub mod StaircaseBuilds

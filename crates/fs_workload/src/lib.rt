@@ -3,7 +3,9 @@
 
 mod draws;
 mod gluings;
+mod laws;
 mod rectangles;
 mod staircases;
 
+pub use laws::staircase_builds;
 pub use staircases::{MOST_RECTANGLES, staircase};
