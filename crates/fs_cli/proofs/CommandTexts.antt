@@ -95,6 +95,7 @@ module _ (s : GluedPolygons) (budget : ℕ) (surface : IsSurface s) (strict : s.
   answers_all_exists extent (command ∷ commands) all some none =
       answer_exists s budget command surface strict all.0 some.0 (λ text p answers. answers_all_exists extent commands all.1 some.1 (λ n q other. none (part_of extent text ++ n) (p || q)
       (record { prefix = part_of extent text; rest = n; prefix_partial = p; rest_partial = q; one = to_extent extent command text p answers; other = other; whole = refl; kind = refl })))
+
   -- commands have one answer at most
   pub commands_unique : (commands : List Command) (m n : List ℕ) (r q : Status) → AnswersCommands s budget commands m r → AnswersCommands s budget commands n q → (m ≡ n) × (r ≡ q)
   commands_unique commands m n r q (no_such_corner command first is text) (no_such_corner other first' is' text') =

@@ -1,5 +1,5 @@
 -- The summary of a staircase: it is one, and how it is written.
-use Rattle.std.proofs.Common.{◌≡◌, ◌≢◌, ℕ, zero, suc, ◌+◌, ◌*◌, ◌%◌, ◌<◌, ◌≤◌, Bool, false, List, ◌++◌, map, Option, Result, Ok, Err, refl, sym, ap, ◌∙◌, subst, inl, inr, arith, append_assoc}
+use Rattle.std.proofs.Common.{◌≡◌, ◌≢◌, ℕ, zero, suc, ◌+◌, ◌*◌, ◌%◌, ◌<◌, ◌≤◌, List, ◌++◌, map, Option, Result, Ok, Err, refl, sym, ap, ◌∙◌, subst, inl, inr, arith, append_assoc}
 use Rattle.std.specs.Io.KnownBytes.{Appends}
 use Rattle.std.proofs.KnownBytes.{Appends-trans}
 use Rattle.std.specs.List.{AllByRecursion, range_with_len}
@@ -24,7 +24,7 @@ use Rattle.fs_cli.specs.declared.answering.Extent.TheVariants as extents
 use Rattle.fs_cli.specs.declared.outcome.Status.{Status}
 use Rattle.fs_cli.specs.declared.outcome.Status.TheVariants as status
 use Rattle.fs_cli.specs.declared.words.Staircase.{Staircase}
-use Rattle.fs_cli.specs.Answer.{IsWhole, IsBroken, BeginsEach, AnswersAll, AnswersFirstLine, staircase_line, AnswersStaircase, stop_line, stop_status, status_of}
+use Rattle.fs_cli.specs.Answer.{IsWhole, AnswersAll, AnswersFirstLine, staircase_line, AnswersStaircase, stop_line, stop_status, status_of}
 use Rattle.fs_cli.specs.Words.{most_rectangles}
 use Rattle.fs_cli.specs.Writing.{Writes, IsThisText, HasStatus}
 use Rattle.fs_cli.proofs.CallWrites.{writes_no_memory}

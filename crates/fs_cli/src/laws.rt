@@ -1,15 +1,13 @@
 // The law of answers.
 
-ghost use Rattle.std.specs.Prelude.{◌≡◌, ◌≤◌, ℕ, List};
-ghost use Rattle.std.specs.List.{AllByRecursion};
-ghost use Rattle.fs_gluing.specs.FirstFault.{PassesOf, tests_of};
-ghost use Rattle.fs_workload.specs.Staircase.{staircase_shape};
+ghost use Rattle.std.specs.Prelude.{◌≡◌, ℕ, List};
 ghost use Rattle.fs_cli.specs.declared.outcome.Status.{Status};
 ghost use Rattle.fs_cli.specs.declared.words.Request.{Request};
 ghost use Rattle.fs_cli.specs.Words.{GiveRequest};
 ghost use Rattle.fs_cli.specs.Answer.{IsAnswered};
 
 use fs_job::job_or_fault;
+use fs_workload::staircase_builds;
 
 /// Words and bytes have one answer, with one status, where the words are admitted. This is a law
 /// about the definitions: the call itself does nothing.
@@ -21,10 +19,4 @@ pub fn one_answer()
 {
     job_or_fault();
     staircase_builds();
-}
-
-// DEV: stands in fs_workload in the end.
-pub(crate) fn staircase_builds()
-    ensures passes { (k seed : ℕ) → 1 ≤ k → k ≤ 200 → AllByRecursion (PassesOf 2 (staircase_shape k seed)) (tests_of (staircase_shape k seed)) }
-{
 }

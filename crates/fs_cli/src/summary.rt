@@ -6,23 +6,17 @@ ghost use Rattle.fs_cli.specs.Words.{most_budget, most_rectangles};
 ghost use Rattle.fs_cli.specs.Writing.{Writes, IsThisText};
 
 use crate::answering::{Extent, answer_all, write_text};
-use crate::laws::staircase_builds;
 use crate::outcome::Status;
 use crate::run::write_stop;
 use crate::words::Staircase;
 use fs_gluing::build;
 use fs_io::Sink;
 use fs_job::Form;
-use fs_workload::staircase;
+use fs_workload::{staircase, staircase_builds};
 use std::alloc::{AllocError, Global};
 
 // Writes the line of a staircase, and the first line of the answer to each of its commands, within the budget.
-pub(crate) fn summarize<O: Sink>(
-    alloc: Global,
-    budget: u32,
-    made: Staircase,
-    out: &mut O,
-) -> Status
+pub(crate) fn summarize<O: Sink>(alloc: Global, budget: u32, made: Staircase, out: &mut O) -> Status
     requires some { 1 ≤ made.rectangles }
     requires few { made.rectangles ≤ most_rectangles }
     requires least { 1 ≤ budget }

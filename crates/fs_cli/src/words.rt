@@ -83,7 +83,13 @@ fn read_options(words: &[String], before: Settings) -> Option<Settings>
             return None;
         }
         let rectangles = Some(read_number(1, MOST_RECTANGLES, text)?);
-        return read_options(rest, Settings { rectangles, ..before });
+        return read_options(
+            rest,
+            Settings {
+                rectangles,
+                ..before
+            },
+        );
     }
     let (text, rest) = split_option("--seed", words)?;
     if before.seed.is_some() {

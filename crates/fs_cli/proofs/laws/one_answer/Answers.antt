@@ -3,7 +3,7 @@ use Rattle.fs_cli.specs.declared.outcome.Status.{Status}
 use Rattle.fs_cli.specs.declared.words.Request.{Request}
 use Rattle.fs_cli.specs.declared.words.Staircase.{Staircase}
 use Rattle.fs_cli.specs.Answer.{AnswersRequest}
-use Rattle.fs_cli.proofs.Requests.{request_unique, IsBounded, request_bounded}
+use Rattle.fs_cli.proofs.Requests.{request_unique, request_bounded}
 use Rattle.fs_cli.proofs.AnsweredUnique.{JobLaw, answered_unique}
 use Rattle.fs_cli.proofs.AnsweredExists.{answered_exists}
 use Rattle.fs_cli.proofs.Summaries.{StaircaseLaw, staircase_unique, staircase_exists}

@@ -1,10 +1,5 @@
 -- The surface is built, its line is written, and then the first line of each answer.
-use Rattle.std.proofs.Common.{Ok, Err, sym, ap, ◌∙◌, subst}
-use Rattle.fs_gluing.specs.declared.shapes.Shape.{Shape}
-use Rattle.fs_gluing.specs.FirstFault.{IsBuildResult}
-use Rattle.fs_job.specs.declared.job.Form.{Form}
-use Rattle.fs_job.specs.declared.job.Form.TheVariants.{Polygons}
-use Rattle.fs_workload.specs.Staircase.{staircase_shape}
+use Rattle.std.proofs.Common.{Ok, Err, ◌∙◌}
 use Rattle.fs_cli.proofs.Summaries.{StaircaseLaw, writes_no_fault, writes_summary, writes_title, built_shape, writes_equal_commands}
 use Rattle.fs_cli.proofs.summary.summarize.Goals as goal
 
