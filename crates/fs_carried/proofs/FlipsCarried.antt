@@ -1,5 +1,5 @@
 -- A flip carries the other half-edges to their moved names, and the new edge from the corners where it begins. A library for crates to come.
-use Rattle.std.proofs.Common.{◌≡◌, ◌≢◌, Bool, refl, sym, ap, ◌∙◌, subst, inl, inr}
+use Rattle.std.proofs.Common.{◌≡◌, ◌≢◌, Bool, refl, sym, ap, ◌∙◌, subst, subst₂, inl, inr}
 use Rattle.fs_ring.specs.Operations.{Operations}
 use Rattle.fs_ring.specs.OrderedRing.{IsOrderedRing}
 use Rattle.fs_ring.specs.Vector.{Vector}
@@ -24,7 +24,7 @@ use Rattle.fs_triangles.proofs.TriangleSides as triangle_sides
 use Rattle.fs_triangles.proofs.HingeNames as hinge_names
 use Rattle.fs_triangles.proofs.FlippedTriangles as flipped_triangles
 use Rattle.fs_triangles.proofs.FlipSteps.{cut_by_flipped_edge}
-use Rattle.fs_carried.specs.Carried.{IsCarriedTo, CarriesHomes}
+use Rattle.fs_carried.specs.Carried.{IsCarriedTo, AreEqualWithHomes}
 use Rattle.fs_carried.proofs.FirstCorners.{side_in_sector}
 use Rattle.fs_carried.proofs.FirstCornersCarried.{home_by_turning}
 
@@ -179,46 +179,49 @@ module _ {A : Type 0} {R : Operations A} {IsPositive : A → Type 0} (L : IsOrde
 
   -- ---- homes
 
-  module _ {Y : Type 0} {S : SideGluing Y A} (s : AreGluedPolygons R IsPositive is_ahead S) (equal : AreCutAndPasteEqual R IsPositive is_ahead S G) where
-    -- polygons that are equal to the triangles before the flip are equal to those after it: the flip is the last of the steps
-    abbrev pub equal_after : AreCutAndPasteEqual R IsPositive is_ahead S H
+  module _ {Y : Type 0} {S : SideGluing Y A} (s : AreGluedPolygons R IsPositive is_ahead S) {home : X → Y}
+      (holds : (x : X) → IsSide G x → IsDirectionAt R IsPositive S (home x) (G.vector x)) (before : AreEqualWithHomes R IsPositive is_ahead S G home) where
+    -- what is equal to the triangles before the flip is equal to those after it: the flip is the last of the steps
+    abbrev equal_after : AreCutAndPasteEqual R IsPositive is_ahead S H
     equal_after = record {
-      named = equal.named;
-      new = equal.new;
-      old = equal.old;
-      renumbering = equal.renumbering;
-      glued = equal.glued;
-      steps = append equal.steps flip_steps;
+      named = before.equal.named;
+      new = before.equal.new;
+      old = before.equal.old;
+      renumbering = before.equal.renumbering;
+      glued = before.equal.glued;
+      steps = append before.equal.steps flip_steps;
     }
 
-    carried_on : (c : Y) (v : Vector A) (x y : X) → IsCarriedTo R IsPositive is_ahead equal c v x → IsCarried R IsPositive is_ahead flip_steps x v y
-        → IsCarriedTo R IsPositive is_ahead equal_after c v y
-    carried_on c v x y i j = carried-append equal.steps flip_steps (equal.new c) v x y i j
+    abbrev CarriedAfter : Y → Vector A → X → Type 0
+    CarriedAfter c v y = IsCarriedTo R IsPositive is_ahead equal_after c v y
 
-    module _ {home : X → Y} (holds : (x : X) → IsSide G x → IsDirectionAt R IsPositive S (home x) (G.vector x)) (carried : CarriesHomes R IsPositive is_ahead equal home) where
-      -- the new edge is carried from the first corner that holds its vector, from the home of the side where it begins on
-      first_carried_on : (x y : X) (b : Y) → IsDirectionAt R IsPositive G x (H.vector y) → IsCarried R IsPositive is_ahead flip_steps x (H.vector y) y
-          → IsFirstCorner R IsPositive S (home x) (H.vector y) b → IsCarriedTo R IsPositive is_ahead equal_after b (H.vector y) y
-      first_carried_on x y b a j first =
-          carried_on b (H.vector y) x y (home_by_turning L test s equal (home x) b x (H.vector y) (holds x a.corner) (carried x a.corner) a first) j
+    carried_on : (c : Y) (v : Vector A) (x y : X) → IsCarriedTo R IsPositive is_ahead before.equal c v x → IsCarried R IsPositive is_ahead flip_steps x v y → CarriedAfter c v y
+    carried_on c v x y i j = carried-append before.equal.steps flip_steps (before.equal.new c) v x y i j
 
-      -- if the homes before the flip carry their half-edges, so do those after it: the new edge has the first corners that hold its vectors, and each other half-edge keeps its home
-      pub homes_carried : (home_after : X → Y) → ((x : X) → IsSide G x → x ≢ h → x ≢ G.twin h → home_after (moved same G h x) ≡ home x)
-          → IsFirstCorner R IsPositive S (home (G.prev (G.twin h))) (H.vector h) (home_after h)
-          → IsFirstCorner R IsPositive S (home (G.prev h)) (H.vector (G.twin h)) (home_after (G.twin h))
-          → CarriesHomes R IsPositive is_ahead equal_after home_after
-      homes_carried home_after kept at_edge at_twin y there =
-          elim (hinge_names.edge_or_moved L tells t h h_side y (flipped_triangles.side_of L tells t h h_side f there)) [
-            | inl i ↦ subst Carried (sym i) (first_carried_on (G.prev e) h (home_after h) new_edge_direction new_edge_carried at_edge)
-            | inr (inl i) ↦ subst Carried (sym i) (first_carried_on (G.prev h) e (home_after e) new_twin_direction new_twin_carried at_twin)
-            | inr (inr i) ↦ subst Carried (sym i.is) (of_kept i.name i.side i.not_edge i.not_twin)
-          ]
-        where
-          Carried : X → Type 0
-          Carried y = IsCarriedTo R IsPositive is_ahead equal_after (home_after y) (H.vector y) y
+    -- the new edge is carried from the first corner that holds its vector, from the home of the half-edge where it begins on
+    first_carried_on : (x y : X) (b : Y) → IsDirectionAt R IsPositive G x (H.vector y) → IsCarried R IsPositive is_ahead flip_steps x (H.vector y) y
+        → IsFirstCorner R IsPositive S (home x) (H.vector y) b → CarriedAfter b (H.vector y) y
+    first_carried_on x y b a j first =
+        carried_on b (H.vector y) x y (home_by_turning L test s before.equal (home x) b x (H.vector y) (holds x a.corner) (before.carried x a.corner) a first) j
 
-          of_kept : (x : X) → IsSide G x → x ≢ h → x ≢ e → Carried (m x)
-          of_kept x i not_h not_e =
-              subst (λ v. IsCarriedTo R IsPositive is_ahead equal_after (home_after (m x)) v (m x)) (sym (f.vector x i not_h not_e))
-              (subst (λ c. IsCarriedTo R IsPositive is_ahead equal_after c (G.vector x) (m x)) (sym (kept x i not_h not_e))
-              (carried_on (home x) (G.vector x) x (m x) (carried x i) (kept_carried x i not_h not_e)))
+    -- homes that carry their half-edges do so after the flip, where the new edge gets the first corners that hold its vectors, and each other half-edge keeps its home
+    pub equal_with_homes_after : (home_after : X → Y) → ((x : X) → IsSide G x → x ≢ h → x ≢ G.twin h → home_after (moved same G h x) ≡ home x)
+        → IsFirstCorner R IsPositive S (home (G.prev (G.twin h))) (H.vector h) (home_after h)
+        → IsFirstCorner R IsPositive S (home (G.prev h)) (H.vector (G.twin h)) (home_after (G.twin h))
+        → AreEqualWithHomes R IsPositive is_ahead S H home_after
+    equal_with_homes_after home_after kept first first_twin = record {
+      equal = equal_after;
+      carried = λ y there. elim (hinge_names.edge_or_moved L tells t h h_side y (flipped_triangles.side_of L tells t h h_side f there)) [
+        | inl i ↦ subst CarriedFromHome (sym i) (first_carried_on (G.prev e) h (home_after h) new_edge_direction new_edge_carried first)
+        | inr (inl i) ↦ subst CarriedFromHome (sym i) (first_carried_on (G.prev h) e (home_after e) new_twin_direction new_twin_carried first_twin)
+        | inr (inr i) ↦ subst CarriedFromHome (sym i.is) (of_kept i.name i.side i.not_edge i.not_twin)
+      ];
+    }
+      where
+        CarriedFromHome : X → Type 0
+        CarriedFromHome y = CarriedAfter (home_after y) (H.vector y) y
+
+        of_kept : (x : X) → IsSide G x → x ≢ h → x ≢ e → CarriedFromHome (m x)
+        of_kept x i not_h not_e =
+            subst₂ (λ c v. CarriedAfter c v (m x)) (sym (kept x i not_h not_e)) (sym (f.vector x i not_h not_e))
+            (carried_on (home x) (G.vector x) x (m x) (before.carried x i) (kept_carried x i not_h not_e))
