@@ -18,13 +18,13 @@ use Rattle.fs_carried.proofs.FirstCorners.{IsFirstAfter, first_after_corners, fi
 -- ---- the corners after a cut that are at one corner before it
 
 module _ {A : Type 0} (R : Operations A) (IsPositive : A → Type 0) {X Y : Type 0} (G : SideGluing X A) (H : SideGluing Y A) (kept : X → Y) where
-  -- y is the last of them at c: the next corner is at the one after c, and what turns on from u within the sector of c is in that of y
+  -- y is the last such corner at c: the next one is at the corner after c, and what turns on from u within the sector of c stays in that of y
   pub record IsLastPart (c : X) (u : Vector A) (y : Y) : Type 0 where
     pub leads : next_corner H y ≡ kept (next_corner G c)
     pub within : (v : Vector A) → InSectorOf R IsPositive H y v → InSectorOf R IsPositive G c v
     pub stays : (v : Vector A) → InHalfPlane R IsPositive u v → InSectorOf R IsPositive G c v → InSectorOf R IsPositive H y v
 
-  -- y and z are the two at c, in this order
+  -- y and z are the two such corners at c, in this order
   pub record AreTwoParts (c : X) (y z : Y) : Type 0 where
     pub within : (v : Vector A) → InSectorOf R IsPositive H y v → InSectorOf R IsPositive G c v
     pub cases : (v : Vector A) → InSectorOf R IsPositive G c v → InSectorOf R IsPositive H y v ⊎ InSectorOf R IsPositive H z v
@@ -118,9 +118,6 @@ module _ {A : Type 0} {R : Operations A} {IsPositive : A → Type 0} (L : IsOrde
 
   -- ---- the germs on the way
 
-  next_side_after : {y : Y} → IsSide H y → IsSide H (next_corner H y)
-  next_side_after {y} k = next_corner_there h y k
-
   -- the side after the last corner at c is at the next corner
   germ_next : {c : X} {u : Vector A} {y : Y} → Germ c u y → LastPart c u y → Germ (next_corner G c) (H.vector (next_corner H y)) (next_corner H y)
   germ_next {c} {u} {y} m last =
@@ -128,8 +125,8 @@ module _ {A : Type 0} {R : Operations A} {IsPositive : A → Type 0} (L : IsOrde
       let there = next_corner_there g c m.start_side in record {
         start_side = there;
         start = subst (InSectorOf R IsPositive G x) (sym (ap H.vector last.leads ∙ cut.vector x there)) (side_in_sector L g there);
-        end_side = next_side_after m.end_side;
-        end = side_in_sector L h (next_side_after m.end_side);
+        end_side = next_corner_there h y m.end_side;
+        end = side_in_sector L h (next_corner_there h y m.end_side);
         corner = at_kept last.leads;
       }
 
@@ -137,8 +134,8 @@ module _ {A : Type 0} {R : Operations A} {IsPositive : A → Type 0} (L : IsOrde
   germ_other : {c : X} {u : Vector A} {y : Y} → Germ c u y → CornerAt c (next_corner H y) → TwoParts c y → Germ c (H.vector (next_corner H y)) (next_corner H y)
   germ_other {c} {u} {y} m there two =
       let z = next_corner H y in
-      let s = side_in_sector L h (next_side_after m.end_side) in
-      record { start_side = m.start_side; start = (two.last (H.vector z) s).within (H.vector z) s; end_side = next_side_after m.end_side; end = s; corner = there }
+      let s = side_in_sector L h (next_corner_there h y m.end_side) in
+      record { start_side = m.start_side; start = (two.last (H.vector z) s).within (H.vector z) s; end_side = next_corner_there h y m.end_side; end = s; corner = there }
 
   module _ (v : Vector A) where
     -- ---- from after the cut
@@ -163,18 +160,18 @@ module _ {A : Type 0} {R : Operations A} {IsPositive : A → Type 0} (L : IsOrde
     abbrev Onward : X → Y → Type 0
     Onward c y = (w : Y) × Germ (next_corner G c) (H.vector w) w × InHalfPlane R IsPositive (H.vector w) v × ((z : Y) → IsFirstCorner R IsPositive H w v z → IsFirstCorner R IsPositive H y v z)
 
-    onward_last : {c : X} {u : Vector A} {y : Y} → Germ c u y → InHalfPlane R IsPositive u v → LastPart c u y → ¬ InSectorOf R IsPositive G c v → Onward c y
-    onward_last {c} {u} {y} m t last out =
+    onward_from_last : {c : X} {u : Vector A} {y : Y} → Germ c u y → InHalfPlane R IsPositive u v → LastPart c u y → ¬ InSectorOf R IsPositive G c v → Onward c y
+    onward_from_last {c} {u} {y} m t last out =
         let not_in : ¬ InSectorOf R IsPositive H y v = λ s. out (last.within v s) in
         (next_corner H y, germ_next m last, ahead_of_next L h m.end_side m.end t not_in, λ z f. first_later not_in f)
 
-    onward : {c : X} {u : Vector A} {y : Y} → Germ c u y → InHalfPlane R IsPositive u v → ¬ InSectorOf R IsPositive G c v → Onward c y
-    onward {c} {u} {y} m t out = elim (parts m) [
-      | inl last ↦ onward_last m t last out
+    onward_from : {c : X} {u : Vector A} {y : Y} → Germ c u y → InHalfPlane R IsPositive u v → ¬ InSectorOf R IsPositive G c v → Onward c y
+    onward_from {c} {u} {y} m t out = elim (parts m) [
+      | inl last ↦ onward_from_last m t last out
       | inr (i, two) ↦
           let not_in : ¬ InSectorOf R IsPositive H y v = λ s. out (two.within v s) in
           let o = germ_other m i two in
-          let r = onward_last o (ahead_of_next L h m.end_side m.end t not_in) (two.last (H.vector (next_corner H y)) o.end) out in
+          let r = onward_from_last o (ahead_of_next L h m.end_side m.end t not_in) (two.last (H.vector (next_corner H y)) o.end) out in
           (r.0, r.1, r.2, λ z f. first_later not_in (r.3 z f))
     ]
 
@@ -184,14 +181,14 @@ module _ {A : Type 0} {R : Operations A} {IsPositive : A → Type 0} (L : IsOrde
       | inl last ↦ let a = last.stays v t s in (y, first_here a, germ m.end_side a m.corner)
       | inr (i, two) ↦ elim (two.cases v s) [
         | inl a ↦ (y, first_here a, germ m.end_side a m.corner)
-        | inr a ↦ (next_corner H y, first_later (λ j. two.apart v j a) (first_here a), germ (next_side_after m.end_side) a i)
+        | inr a ↦ (next_corner H y, first_later (λ j. two.apart v j a) (first_here a), germ (next_corner_there h y m.end_side) a i)
       ]
     ]
       where
         germ : {w : Y} → IsSide H w → InSectorOf R IsPositive H w v → CornerAt c w → Germ b v w
         germ {w} k a i = subst (λ x. Germ x v w) (sym same) (record { start_side = m.start_side; start = s; end_side = k; end = a; corner = i })
     after_number (suc n) c b u y m t (out, rest) =
-        let o = onward m t out in
+        let o = onward_from m t out in
         let r = after_number n (next_corner G c) b (H.vector o.0) o.0 o.1 o.2 rest in
         (r.0, o.3 r.0 r.1, r.2)
 
