@@ -6,6 +6,7 @@ pub mod SectorPlaces
 pub mod CornerTests
 pub mod HingeHalfEdges
 pub mod NewEdges
+pub mod HomesCarried
 pub mod MeshAfterFlip
 pub mod Arenas
 pub mod FlippedArenas

@@ -1,8 +1,7 @@
 -- The mesh after a flip: its triangulation, and the cuts that lead to it.
-use Rattle.std.proofs.Common.{◌≡◌, ℕ, ◌<◌, length, eqb, Ok, sym, ap, ◌∙◌, subst, inl, inr}
+use Rattle.std.proofs.Common.{◌≡◌, ◌≢◌, ℕ, ◌<◌, length, eqb, Ok, sym, ap, ◌∙◌, subst, subst₂, inl, inr}
 use mathlib.Core.Logic.{∥∥₁_map}
 use Rattle.fs_ring.specs.OrderedRing.{IsOrderedRing}
-use Rattle.fs_ring.specs.Direction.{InHalfPlane, inside}
 use Rattle.fs_quadratic.specs.Ring.{quadratic, IsPositive}
 use Rattle.fs_quadratic.proofs.Laws.{field_order}
 use Rattle.fs_quadratic.specs.Radicand.{IsRadicand}
@@ -12,26 +11,23 @@ use Rattle.fs_plane.proofs.FormulaLaws.{sum_value}
 use Rattle.fs_paths.specs.SideGluing.{IsSide, AreGluedPolygons}
 use Rattle.fs_convex.specs.Turning.{DecidesHalfPlanes}
 use Rattle.fs_cuts.specs.EdgeRemoval.{without_edge}
-use Rattle.fs_cuts.specs.CutAndPaste.{CutAndPaste}
-use Rattle.fs_cuts.proofs.ListsOfSteps.{append}
-use Rattle.fs_cuts.proofs.RemovalGluing as removal_gluing
-use Rattle.fs_cuts.proofs.WithoutEdge as without
 use Rattle.fs_triangles.specs.Triangles.{AreTriangles}
 use Rattle.fs_triangles.specs.Flips.{moved, IsConvexHinge}
 use Rattle.fs_triangles.proofs.HingeNames as hinge_names
-use Rattle.fs_triangles.proofs.TriangleSides as triangle_sides
 use Rattle.fs_triangles.proofs.FlippedTriangles.{convex_of_circle, flipped_triangles}
 use Rattle.fs_triangles.proofs.FlippedConnections.{connected_after_flip}
-use Rattle.fs_triangles.proofs.FlipSteps.{flip_steps, cut_by_flipped_edge}
+use Rattle.fs_carried.proofs.FlipsCarried as flips_carried
 use Rattle.fs_gluing.specs.SurfaceSides.{is_ahead}
-use Rattle.fs_gluing.specs.Homes.{home_of, IsInCorner}
+use Rattle.fs_gluing.specs.Homes.{home_of, IsInCorner, IsFirstCorner}
 use Rattle.fs_gluing.specs.Polygons.{HasSide}
-use Rattle.fs_gluing.specs.Triangulation.{Triangulation, IsTriangulation, face_sides, edge_vector, edge_twin}
+use Rattle.fs_gluing.specs.Triangulation.{Triangulation, IsTriangulation, face_sides, edge_vector, edge_twin, prev_in_face}
+use Rattle.fs_gluing.proofs.Sides.GluedSurface.{glued_polygons}
 use Rattle.fs_gluing.proofs.Sides.HalfPlaneTests.{decides_half_planes}
-use Rattle.fs_mesh.specs.Meshes.{MeshValue, IsMesh, IsIllegal, hinge_after, hinge_before_twin}
+use Rattle.fs_mesh.specs.Meshes.{MeshValue, IsMesh, IsCutWithHomes, IsIllegal, hinge_after, hinge_before_twin}
 use Rattle.fs_mesh.specs.FlippedMeshes.{IsFlipOf, ArePastedAndCut, IsMeshFlipped}
 use Rattle.fs_mesh.proofs.HalfEdgeNumbers.{eqb_tells_names, side_of_number, number_of_side}
 use Rattle.fs_mesh.proofs.FacePositions.{glued_faces}
+use Rattle.fs_mesh.proofs.HomesCarried.{home_direction}
 use Rattle.fs_mesh.proofs.NewEdges.{IsNewEdge, is_new_edge}
 
 module _ {d : ℕ} (radicand : IsRadicand d) {t : Triangulation} (is_triangulation : IsTriangulation d t) (h : ℕ) (there : h < length t.vectors) (illegal : IsIllegal d t h)
@@ -72,21 +68,14 @@ module _ {d : ℕ} (radicand : IsRadicand d) {t : Triangulation} (is_triangulati
   glued_after : AreGluedPolygons (quadratic d) (IsPositive d) (is_ahead d) (face_sides after)
   glued_after = glued_faces after d radicand triangles_after
 
-  steps_after : CutAndPaste (quadratic d) (IsPositive d) (is_ahead d) (face_sides t) (face_sides after)
-  steps_after = flip_steps L test eqb_tells_names triangles glued h h_side convex flip.flip glued_after
-
   -- one cut undone and one cut lead to them
   pub pasted_and_cut : ArePastedAndCut d t h after
-  pasted_and_cut =
-      let first : InHalfPlane (quadratic d) (IsPositive d) _ _ = inside convex.at_start in
-      let second : InHalfPlane (quadratic d) (IsPositive d) _ _ = inside convex.at_end in
-      let r = without.is_without_edge eqb_tells_names glued h h_side (triangle_sides.twin_apart L triangles h h_side) in
-      record {
-        between = without_edge eqb (face_sides t) h;
-        glued = removal_gluing.glued_without_edge L test glued r first second;
-        cut_before = removal_gluing.cut_by_edge L test glued r first second;
-        cut_after = cut_by_flipped_edge L test eqb_tells_names triangles glued h h_side convex flip.flip;
-      }
+  pasted_and_cut = record {
+    between = without_edge eqb (face_sides t) h;
+    glued = flips_carried.between L test eqb_tells_names triangles glued h h_side convex flip.flip glued_after;
+    cut_before = flips_carried.cut_before L test eqb_tells_names triangles glued h h_side convex flip.flip glued_after;
+    cut_after = flips_carried.cut_after L test eqb_tells_names triangles glued h h_side convex flip.flip glued_after;
+  }
 
 module _ (m : MeshValue) (mesh : IsMesh m) (h : ℕ) (there : h < length m.triangles.vectors) {after : MeshValue} (flip : IsMeshFlipped m h after) where
   is_new : IsNewEdge m h flip.edge
@@ -124,19 +113,41 @@ module _ (m : MeshValue) (mesh : IsMesh m) (h : ℕ) (there : h < length m.trian
       triangles : AreTriangles (quadratic m.surface.d) (IsPositive m.surface.d) (face_sides m.triangles)
       triangles = mesh.triangulation.triangles
 
+  -- ---- the cuts that lead to it, and where they carry the half-edges from
+
+  abbrev FirstCorner : Corner → PlaneVector → Corner → Type 0
+  FirstCorner c v e = IsFirstCorner m.surface c v e
+
+  -- the homes of the new edge are the first corners that hold its vectors
+  first_home : FirstCorner (home_of m.homes (prev_in_face (edge_twin m.triangles h))) (edge_vector after.triangles h) (home_of after.homes h)
+  first_home =
+      subst₂ (FirstCorner (home_of m.homes (prev_in_face (edge_twin m.triangles h)))) (new_vector ∙ sym flip.triangles.flip.edge) (sym flip.home) is_new.first.home
+
+  first_twin_home : FirstCorner (home_of m.homes (prev_in_face h)) (edge_vector after.triangles (edge_twin m.triangles h)) (home_of after.homes (edge_twin m.triangles h))
+  first_twin_home =
+      subst₂ (FirstCorner (home_of m.homes (prev_in_face h))) (ap vector_neg new_vector ∙ sym flip.triangles.flip.edge_back) (sym flip.twin_home) is_new.first.twin_home
+
+  kept_home : (x : ℕ) → IsSide (face_sides m.triangles) x → x ≢ h → x ≢ edge_twin m.triangles h → home_of after.homes (moved eqb (face_sides m.triangles) h x) ≡ home_of m.homes x
+  kept_home x s = flip.kept x (subst (λ n. x < n) (sym mesh.homes.as_many) (number_of_side m.triangles x s))
+
+  -- a list of steps that carries the half-edges from their homes, and then the flip, is such a list
+  cut_after_flip : IsIllegal m.surface.d m.triangles h → IsCutWithHomes m.surface m.triangles m.homes → IsCutWithHomes m.surface after.triangles after.homes
+  cut_after_flip illegal k =
+      let triangles = mesh.triangulation.triangles in
+      let radicand = mesh.surface.radicand in
+      let h_side = side_of_number m.triangles h there in
+      let convex = convex_of_circle (field_order radicand) triangles h h_side illegal in
+      let triangles_after = (triangulation_after radicand mesh.triangulation h there illegal flip.triangles).triangles in
+      flips_carried.equal_with_homes_after (field_order radicand) (decides_half_planes radicand) eqb_tells_names triangles (glued_faces m.triangles m.surface.d radicand triangles) h h_side convex
+      flip.triangles.flip (glued_faces after.triangles m.surface.d radicand triangles_after) (glued_polygons m.surface mesh.surface.surface) (home_direction m mesh) k
+      (home_of after.homes) kept_home first_home first_twin_home
+
   -- a mesh is one after the flip of an illegal edge
   pub mesh_after : IsIllegal m.surface.d m.triangles h → IsMesh after
   mesh_after illegal = subst (λ s. IsMesh (record { surface = s; triangles = after.triangles; homes = after.homes })) (sym flip.surface) (record {
     surface = mesh.surface;
     triangulation = triangulation_after mesh.surface.radicand mesh.triangulation h there illegal flip.triangles;
-    cut = ∥∥₁_map mesh.cut (λ k. record {
-      named = k.named;
-      new = k.new;
-      old = k.old;
-      renumbering = k.renumbering;
-      glued = k.glued;
-      steps = append k.steps (steps_after mesh.surface.radicand mesh.triangulation h there illegal flip.triangles);
-    });
+    cut = ∥∥₁_map mesh.cut (cut_after_flip illegal);
     homes = record {
       as_many = flip.homes ∙ mesh.homes.as_many ∙ sym flip.triangles.vectors;
       corner = λ y below. (home_after y below).0;

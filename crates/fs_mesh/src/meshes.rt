@@ -5,9 +5,9 @@ ghost use Rattle.fs_quadratic.specs.Ring.{IsPositive};
 ghost use Rattle.fs_plane.specs.Vector.{vector_zero, IsInsideFaceCircle};
 ghost use Rattle.fs_gluing.specs.Homes.{HasHomes, home_of, IsInCorner, IsFirstCorner, FindsCorner};
 ghost use Rattle.fs_gluing.specs.Polygons.{HasSide};
-ghost use Rattle.fs_gluing.specs.Triangulation.{IsTriangulation, IsCutFrom, IsEdge, triangulation_of, edge_vector, edge_twin, next_in_face};
+ghost use Rattle.fs_gluing.specs.Triangulation.{IsTriangulation, IsEdge, triangulation_of, edge_vector, edge_twin, next_in_face};
 ghost use Rattle.fs_mesh.specs.Arena.{arena_triangles, arena_homes, HasNexts, hinge_of, IsWithin};
-ghost use Rattle.fs_mesh.specs.Meshes.{IsMesh, IsIllegal, edge_circle, edge_circle_after, hinge_after, hinge_before, hinge_after_twin};
+ghost use Rattle.fs_mesh.specs.Meshes.{IsMesh, IsCutWithHomes, IsCarriedFrom, IsIllegal, edge_circle, edge_circle_after, hinge_after, hinge_before, hinge_after_twin};
 ghost use Rattle.fs_mesh.specs.FlippedMeshes.{IsMeshFlipped, ArePastedAndCut, NewEdge, FindsNewEdge, AreFirstHomes};
 
 use crate::arena::{HalfEdge, Hinge, push_face, write_flip};
@@ -24,7 +24,7 @@ use std::marker::Model;
 /// number 3·f + k. Each face is a counterclockwise triangle, the half-edges are twins in pairs with opposite
 /// vectors, and all faces are connected. A list of cuts, of cuts undone, and of renumberings leads from the
 /// polygons of the surface to the faces. Each half-edge has a home, a corner of the surface, in whose sector its
-/// vector is.
+/// vector is, and the list carries it from there.
 #[derive(Drop)]
 pub struct Mesh<'a> {
     surface: &'a Surface,
@@ -51,7 +51,7 @@ impl<'a> Mesh<'a> {
         triangles: Triangles,
     ) -> Result<Mesh<'a>, NoMemory>
         requires triangulation { IsTriangulation surface.now.d (triangulation_of triangles) }
-        requires cut { IsCutFrom surface.now (triangulation_of triangles) }
+        requires cut { IsCutWithHomes surface.now (triangulation_of triangles) triangles.homes }
         requires homes { HasHomes surface.now (triangulation_of triangles) triangles.homes }
         ensures surface { IfOk result (λ mesh. mesh.surface ≡ surface.now) }
         ensures triangles { IfOk result (λ mesh. mesh.triangles ≡ triangulation_of triangles) }
@@ -138,6 +138,8 @@ impl<'a> Mesh<'a> {
         ensures formula { FindsCorner self.now.surface (home_of self.now.homes h) v 0 9 result }
         ensures first { IfOk result (λ corner. IsFirstCorner self.now.surface (home_of self.now.homes h) v corner) }
         ensures there { IfOk result (λ corner. HasSide self.now.surface.polygons corner) }
+        // Each list of cuts that carries all half-edges from their homes carries v, from this corner, to the start of the half-edge.
+        ensures carried { IfOk result (λ corner. IsCarriedFrom self.now corner v h) }
     {
         find_corner(self.surface, self.home_of(h), v, 0, 9)
     }

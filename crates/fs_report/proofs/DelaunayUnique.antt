@@ -1,11 +1,12 @@
 -- `delaunay` and `cells` have one answer about a surface without straight corners, and no other.
 use Rattle.std.proofs.Common.{◌≡◌, ℕ, Bool, true, false, Result, Ok, Err, List, [], refl, sym, ap, ◌∙◌, subst}
 use Rattle.std.specs.Prelude.{codes, unsigned_abs}
+use mathlib.Core.Logic.{∥∥₁_map}
 use Rattle.fs_lists.proofs.Results.{ok_equal, err_equal, ok_not_err}
 use Rattle.fs_plane.specs.declared.sites.Stop.{Stop}
 use Rattle.fs_plane.specs.declared.sites.Stop.TheVariants.{Undecided, Overflow, NoMemory}
 use Rattle.fs_gluing.specs.Surface.{GluedPolygons, IsSurface}
-use Rattle.fs_gluing.specs.Triangulation.{Triangulation, IsTriangulation, IsCutFrom, triangulation_of}
+use Rattle.fs_gluing.specs.Triangulation.{IsTriangulation, IsCutFrom, triangulation_of}
 use Rattle.fs_triangulate.proofs.FanCuts.{fan_is_cut}
 use Rattle.fs_triangulate.proofs.FanHomes.{fan_has_homes}
 use Rattle.fs_triangulate.proofs.FanTriangulation.{fan_is_triangulation}
@@ -176,7 +177,7 @@ module _ (s : GluedPolygons) (budget : ℕ) (surface : IsSurface s) (strict : s.
     first = first;
     ends = ends;
     run = subst (λ (u : GluedPolygons). IsDelaunayRun u.d start.triangles found.edges found.mesh.triangles) first.surface to.run;
-    cut = subst (λ u. ∥ IsCutFrom u found.mesh.triangles ∥₁) (to.surface ∙ first.surface) to.mesh.cut;
+    cut = subst (λ u. ∥ IsCutFrom u found.mesh.triangles ∥₁) (to.surface ∙ first.surface) (∥∥₁_map to.mesh.cut (λ k. k.equal));
   }
 
   -- or it stops
@@ -241,7 +242,7 @@ module _ (s : GluedPolygons) (budget : ℕ) (mesh : MeshValue) (first : IsFirstM
       first = first;
       ends = run;
       run = subst (λ (u : GluedPolygons). IsDelaunayRun u.d mesh.triangles found.edges found.mesh.triangles) first.surface is_run;
-      cut = subst (λ u. ∥ IsCutFrom u found.mesh.triangles ∥₁) same_surface is_mesh.cut;
+      cut = subst (λ u. ∥ IsCutFrom u found.mesh.triangles ∥₁) same_surface (∥∥₁_map is_mesh.cut (λ k. k.equal));
     }
 
     -- its faces

@@ -1,9 +1,8 @@
--- A flip is a cut undone and another cut. A library for crates to come.
+-- A flip is a cut undone and another cut: the two triangles at an edge, as one polygon, are cut along the other diagonal. A library for crates to come.
 use Rattle.std.proofs.Common.{◌≡◌, ◌≢◌, ◌⊎◌, Bool, [], ◌∷◌, refl, sym, ap, ◌∙◌, inl, inr}
 use Rattle.fs_ring.specs.Operations.{Operations}
 use Rattle.fs_ring.specs.OrderedRing.{IsOrderedRing}
 use Rattle.fs_ring.specs.Vector.{Vector, zero_vector, add_vector}
-use Rattle.fs_ring.specs.Direction.{InHalfPlane, inside}
 use Rattle.fs_ring.proofs.Solver.{expressions as E}
 use Rattle.fs_ring.proofs.PlaneSolver.{vector_identity, ◌≐ᵥ◌}
 use Rattle.fs_convex.specs.Turning.{DecidesHalfPlanes}
@@ -11,9 +10,7 @@ use Rattle.fs_paths.specs.SideGluing.{SideGluing, IsSide, AreGluedPolygons}
 use Rattle.fs_paths.specs.Development.{IsPutAt}
 use Rattle.fs_cuts.specs.EdgeRemoval.{TellsNames, IsWithoutEdge, without_edge}
 use Rattle.fs_cuts.specs.Cuts.{IsCut}
-use Rattle.fs_cuts.specs.CutAndPaste.{CutAndPaste, step, no_step, cut, paste}
 use Rattle.fs_cuts.proofs.EdgeRemoval as removal
-use Rattle.fs_cuts.proofs.RemovalGluing as removal_gluing
 use Rattle.fs_cuts.proofs.WithoutEdge as without
 use Rattle.fs_triangles.specs.Triangles.{AreTriangles}
 use Rattle.fs_triangles.specs.Flips.{moved, IsFlip, IsConvexHinge}
@@ -138,12 +135,3 @@ module _ {A : Type 0} {R : Operations A} {IsPositive : A → Type 0} (L : IsOrde
     span = span_of_edge;
     apart = λ k i. triangle_sides.twin_apart L (flipped_triangles.flipped_triangles L tells t h h_side f convex) h (flipped_triangles.side_after L tells t h h_side f h_side) k (i ∙ sym f.twin_edge);
   }
-
-  -- the edge is taken out, and the other diagonal put in
-  pub flip_steps : AreGluedPolygons R IsPositive is_ahead H → CutAndPaste R IsPositive is_ahead G H
-  flip_steps after =
-      let first : InHalfPlane R IsPositive (G.vector (G.prev h)) (G.vector (G.next e)) = inside convex.at_start in
-      let second : InHalfPlane R IsPositive (G.vector (G.prev e)) (G.vector (G.next h)) = inside convex.at_end in
-      step G K H (removal_gluing.glued_without_edge L test g r first second)
-      (paste (λ x. x) (G.prev h) (G.prev e) h e (removal_gluing.cut_by_edge L test g r first second))
-      (step K H H after (cut m (G.next e) (G.next h) h e cut_by_flipped_edge) (no_step H H refl))

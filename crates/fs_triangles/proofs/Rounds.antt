@@ -1,6 +1,6 @@
 -- Relations that hold round a list: of each item and the next one, and of the last item and the first.
-use Rattle.std.proofs.Common.{◌≡◌, ◌⊎◌, List, [], ◌∷◌, ◌++◌, refl, subst, sym, inl, inr, append-nil}
-use Rattle.fs_lists.specs.Members.{IsIn, IsDistinct, AreApart}
+use Rattle.std.proofs.Common.{List, [], ◌∷◌, ◌++◌, refl, subst, sym, inl, inr, append-nil}
+use Rattle.fs_lists.specs.Members.{IsIn, IsDistinct}
 use Rattle.fs_lists.proofs.Members.{in_append_left, in_append_right, in_append_cases}
 use Rattle.fs_triangles.specs.Ears.{last_after}
 

@@ -1,7 +1,7 @@
--- A list of cuts leads from a surface without straight corners to the faces of its first cut.
+-- A list of cuts leads from a surface without straight corners to the faces of its first cut, and carries each half-edge from its home.
 use Rattle.std.proofs.Common.{◌≡◌, ◌⊎◌, ℕ, zero, suc, ◌+◌, ◌-◌, ◌*◌, ◌<◌, ◌≤◌, false, eqb, List, [], ◌∷◌, ◌++◌, length, map, refl, sym, ap, ◌∙◌, subst, inl, inr, arith}
-use Rattle.std.specs.Prelude.{slice_index_or}
-use Rattle.std.specs.List.{range_with_len}
+use Rattle.std.specs.Prelude.{Some}
+use Rattle.std.specs.List.{range_with_len, slice_get}
 use Rattle.std.proofs.lemmas.Bool.{eqb-true, eq-eqb}
 use Rattle.std.proofs.lemmas.Option.{get_or_from_slice_get}
 use Rattle.fs_lists.specs.Members.{IsIn, IsDistinct}
@@ -18,7 +18,8 @@ use Rattle.fs_plane.specs.declared.corners.Corner.{Corner}
 use Rattle.fs_paths.specs.SideGluing.{SideGluing, IsSide}
 use Rattle.fs_cuts.specs.EdgeRemoval.{TellsNames}
 use Rattle.fs_cuts.specs.Renumberings.{IsRenumbering}
-use Rattle.fs_triangles.specs.Ears.{Ear, AreEars}
+use Rattle.fs_carried.specs.Carried.{AreEqualWithHomes}
+use Rattle.fs_triangles.specs.Ears.{Ear}
 use Rattle.fs_triangles.proofs.EarCuts.{IsFaceOf, half_edges_of}
 use Rattle.fs_triangles.proofs.PolygonsUncut.{CutPolygon, IsCutPolygon, AreUncut, all_half_edges, polygons_joined}
 use Rattle.fs_gluing.specs.declared.surfaces.Side.{Side}
@@ -28,12 +29,13 @@ use Rattle.fs_gluing.specs.Surface.{GluedPolygons, IsTranslationSurface}
 use Rattle.fs_gluing.specs.SurfaceSides.{vector_of, polygon_sides, is_ahead}
 use Rattle.fs_gluing.specs.FirstCut.{fans_from, position_in}
 use Rattle.fs_gluing.specs.NextCorner.{side_count, corner_after}
-use Rattle.fs_gluing.specs.Triangulation.{Triangulation, IsCutFrom, triangulation_of, edge_vector, face_sides, next_in_face}
+use Rattle.fs_gluing.specs.Homes.{home_of}
+use Rattle.fs_gluing.specs.Triangulation.{Triangulation, triangulation_of, edge_vector, face_sides, next_in_face}
 use Rattle.fs_gluing.proofs.Sides.AllSides.{corner}
 use Rattle.fs_gluing.proofs.Sides.HalfPlaneTests.{decides_half_planes}
 use Rattle.fs_triangulate.specs.Fans.{HasTriangles, faces_before}
 use Rattle.fs_triangulate.proofs.FaceNumbers.{next_first, next_second, next_third}
-use Rattle.fs_triangulate.proofs.FanEars.{fan_ear, IsFan, fan_is_ears, round_of, of_round, all_in_range}
+use Rattle.fs_triangulate.proofs.FanEars.{fan_ear, IsFan, AreFanEars, fan_is_ears, fan_begins, round_of, of_round, all_in_range}
 use Rattle.fs_triangulate.proofs.FaceCounts.{all_faces, face_below}
 use Rattle.fs_triangulate.proofs.GluedWays.{has_corner, three_sides_of}
 use Rattle.fs_triangulate.proofs.FaceBases.{no_faces, faces_more}
@@ -74,6 +76,20 @@ module _ (s : GluedPolygons) (surface : IsTranslationSurface s) (triangles : Tri
 
   abbrev order : IsOrderedRing (quadratic s.d) (IsPositive s.d)
   order = field_order surface.radicand
+
+  -- the corner at which a half-edge begins
+  abbrev home : ℕ → Corner
+  home h = home_of triangles.homes h
+
+  home_is : (h : ℕ) (c : Corner) → slice_get triangles.homes h ≡ Some c → home h ≡ c
+  home_is h c e = get_or_from_slice_get triangles.homes h c (corner 0 0) e
+
+  home_along : (c : Corner) → HasSide polygons c → home (half_edge polygons c) ≡ c
+  home_along c h = home_is (half_edge polygons c) c (fan.home_half s triangles cut surface c h)
+
+  -- the half-edge along the side that begins there
+  abbrev home_side : ℕ → ℕ
+  home_side h = half_edge polygons (home h)
 
   -- ---- the fan of polygon i
 
@@ -159,10 +175,18 @@ module _ (s : GluedPolygons) (surface : IsTranslationSurface s) (triangles : Tri
           (ap (vector_of polygons) e ∙ sym (fan.vector_half s triangles cut surface (corner i k) (has_corner polygons (corner i k) m)))
           (inside (convex_after s surface strict (corner i j) (has_corner polygons (corner i j) l))))
 
-      is_cut_polygon : IsCutPolygon (quadratic s.d) (IsPositive s.d) (is_ahead s.d) G G cut_polygon
+      fan_ears : AreFanEars (quadratic s.d) (IsPositive s.d) G first third side n 0 (n - 3) cut_polygon.boundary (side 0)
+      fan_ears =
+          subst (λ x. AreFanEars (quadratic s.d) (IsPositive s.d) G first third side n 0 (n - 3) (x ∷ map side (range_with_len (0 + 1) (suc (suc (n - 3))))) x)
+          (sym (half_first polygons i three)) (fan_is_ears (quadratic s.d) (IsPositive s.d) G first third side n is_fan (n - 3) 0 (omega (arith, three)))
+
+      is_cut_polygon : IsCutPolygon (quadratic s.d) (IsPositive s.d) (is_ahead s.d) G G home_side cut_polygon
       is_cut_polygon = record {
-        ears = subst (λ x. AreEars (quadratic s.d) (IsPositive s.d) G (x ∷ map side (range_with_len (0 + 1) (suc (suc (n - 3))))) (map face (range_with_len 0 (suc (n - 3)))))
-            (sym (half_first polygons i three)) (fan_is_ears (quadratic s.d) (IsPositive s.d) G first third side n is_fan (n - 3) 0 (omega (arith, three)));
+        ears = fan_ears.ears;
+        begins = fan_begins (quadratic s.d) (IsPositive s.d) G first third side n 0 (n - 3) cut_polygon.boundary (side 0) fan_ears home_side
+            (λ j l m. ap (half_edge polygons) (home_is (first j) (corner i 0) (fan.first_runs s triangles cut i j (omega (arith, three))).home))
+            (λ j l m. ap (half_edge polygons) (home_along (corner i (j + 1)) (has_corner polygons (corner i (j + 1)) (omega (arith, three)))))
+            (λ j l m. ap (half_edge polygons) (home_is (third j) (corner i (j + 2)) (fan.third_runs s triangles cut i j (omega (arith, three))).home));
         faces = all_in_range face (IsFaceOf (quadratic s.d) G) 0 (suc (n - 3)) (λ t a l. is_face t (omega (arith, three)));
         bends = round_of (quadratic s.d) (IsPositive s.d) G first third side n (λ x y. InHalfPlane (quadratic s.d) (IsPositive s.d) (edge_vector T x) (edge_vector T y)) (suc (suc (n - 3)))
             (λ j l. side_bends j (j + 1) (omega (arith, three)) (omega (arith, three)) (corner_after-next polygons i j (omega (arith, three))))
@@ -215,10 +239,15 @@ module _ (s : GluedPolygons) (surface : IsTranslationSurface s) (triangles : Tri
       let count : 3 * (all_faces polygons - faces_before polygons 0) ≡ 3 * all_faces polygons = omega arith in
       half_edges_from 0 (length polygons) (omega arith) ∙ (λ i. range_with_len (start i) (count i))
 
-  joined : (K : SideGluing ℕ Quadratic) × AreUncut (quadratic s.d) (IsPositive s.d) (is_ahead s.d) G K all_cut
+  among_half_edges : (y : ℕ) → IsSide G y → IsIn y (all_half_edges all_cut)
+  among_half_edges y t =
+      let l = whole.in_faces s surface triangles cut y t in
+      subst (IsIn y) (sym all_half_edges_are) (in_range 0 (3 * all_faces polygons) y (omega arith) (omega arith))
+
+  joined : (K : SideGluing ℕ Quadratic) × AreUncut (quadratic s.d) (IsPositive s.d) (is_ahead s.d) G K home_side all_cut
   joined =
-      polygons_joined order (decides_half_planes surface.radicand) tells G (whole.fan_glued s surface triangles cut strict) all_cut
-      (all_in_range cut_polygon (IsCutPolygon (quadratic s.d) (IsPositive s.d) (is_ahead s.d) G G) 0 (length polygons) (λ i a l. is_cut_polygon i (omega arith)))
+      polygons_joined order (decides_half_planes surface.radicand) tells G (whole.fan_glued s surface triangles cut strict) home_side all_cut
+      (all_in_range cut_polygon (IsCutPolygon (quadratic s.d) (IsPositive s.d) (is_ahead s.d) G G home_side) 0 (length polygons) (λ i a l. is_cut_polygon i (omega arith)))
       (subst IsDistinct (sym all_half_edges_are) (range_distinct 0 (3 * all_faces polygons)))
 
   -- the faces joined to the polygons of the surface, by the names of their half-edges
@@ -244,8 +273,7 @@ module _ (s : GluedPolygons) (surface : IsTranslationSurface s) (triangles : Tri
 
   is_along : (y : ℕ) → IsSide K y → IsAlong y
   is_along y t =
-      let l = whole.in_faces s surface triangles cut y (joined.1.side_before y t) in
-      let on = joined.1.only_boundary y t (subst (IsIn y) (sym all_half_edges_are) (in_range 0 (3 * all_faces polygons) y (omega arith) (omega arith))) in
+      let on = joined.1.only_boundary y t (among_half_edges y (joined.1.side_before y t)) in
       let p = in_map_cases cut_polygon on.polygon (range_with_len 0 (length polygons)) on.there in
       let i = p.0 in
       let there : i < length polygons = (let r = range_bounds 0 (length polygons) i p.1 in omega (arith, r.1)) in
@@ -253,13 +281,6 @@ module _ (s : GluedPolygons) (surface : IsTranslationSurface s) (triangles : Tri
       let x = in_map_cases (side i) y (range_with_len 0 (suc (suc (suc (side_count polygons i - 3))))) (subst (λ q. IsIn y q.boundary) p.2 on.on) in
       let r = range_bounds 0 (suc (suc (suc (side_count polygons i - 3)))) x.0 x.1 in
       record { corner = corner i x.0; there = has_corner polygons (corner i x.0) (omega (arith, r.1)); is = x.2 }
-
-  -- the corner at which a half-edge begins
-  abbrev home : ℕ → Corner
-  home h = slice_index_or triangles.homes h (corner 0 0)
-
-  home_of : (c : Corner) → HasSide polygons c → home (half_edge polygons c) ≡ c
-  home_of c h = get_or_from_slice_get triangles.homes (half_edge polygons c) c (corner 0 0) (fan.home_half s triangles cut surface c h)
 
   next_along : (c : Corner) → HasSide polygons c → K.next (half_edge polygons c) ≡ half_edge polygons (corner_after polygons c)
   next_along c h =
@@ -282,14 +303,17 @@ module _ (s : GluedPolygons) (surface : IsTranslationSurface s) (triangles : Tri
   is_renumbering : IsRenumbering (polygon_sides polygons) K (half_edge polygons) home
   is_renumbering = record {
     new_side = λ c h. joined.1.boundary_side (cut_polygon c.polygon) (cut_there c.polygon (fan.polygon_below s triangles cut surface c h)) (half_edge polygons c) (on_boundary c h);
-    old_side = λ y t. let a = is_along y t in subst (HasSide polygons) (sym (ap home a.is ∙ home_of a.corner a.there)) a.there;
-    old_new = home_of;
-    new_old = λ y t. let a = is_along y t in ap (half_edge polygons) (ap home a.is ∙ home_of a.corner a.there) ∙ sym a.is;
+    old_side = λ y t. let a = is_along y t in subst (HasSide polygons) (sym (ap home a.is ∙ home_along a.corner a.there)) a.there;
+    old_new = home_along;
+    new_old = λ y t. let a = is_along y t in ap (half_edge polygons) (ap home a.is ∙ home_along a.corner a.there) ∙ sym a.is;
     vector = λ c h. joined.1.vector (half_edge polygons c) ∙ fan.vector_half s triangles cut surface c h;
     next = next_along;
     twin = λ c h. joined.1.twin (half_edge polygons c) ∙ fan.twin_half s triangles cut surface c h;
   }
 
-  -- a list of cuts leads to the faces
-  pub fan_is_cut : IsCutFrom s T
-  fan_is_cut = record { named = K; new = half_edge polygons; old = home; renumbering = is_renumbering; glued = joined.1.glued; steps = joined.1.cuts }
+  -- a list of cuts leads to the faces, and carries each half-edge from its home
+  pub fan_is_cut : AreEqualWithHomes (quadratic s.d) (IsPositive s.d) (is_ahead s.d) (polygon_sides polygons) G (home_of triangles.homes)
+  fan_is_cut = record {
+    equal = record { named = K; new = half_edge polygons; old = home; renumbering = is_renumbering; glued = joined.1.glued; steps = joined.1.cuts };
+    carried = λ y t. (joined.1.carried y (among_half_edges y t)).carried;
+  }

@@ -1,12 +1,15 @@
 // Polygons cut into triangles along their diagonals from corner 0.
 
 ghost use Rattle.std.specs.Prelude.{◌≡◌, ◌+◌, ◌<◌, ◌≤◌, ◌∷◌, [], false, length, IfOk, OnOk};
-ghost use Rattle.fs_gluing.specs.Homes.{HasHomes};
+ghost use Rattle.fs_carried.specs.Carried.{AreEqualWithHomes};
+ghost use Rattle.fs_gluing.specs.Homes.{HasHomes, home_of};
 ghost use Rattle.fs_gluing.specs.Limits.{most_sides};
 ghost use Rattle.fs_gluing.specs.NextCorner.{side_count};
 ghost use Rattle.fs_gluing.specs.Surface.{IsSurface};
-ghost use Rattle.fs_gluing.specs.Triangulation.{IsTriangulation, IsCutFrom, triangulation_of};
+ghost use Rattle.fs_gluing.specs.SurfaceSides.{is_ahead, polygon_sides};
+ghost use Rattle.fs_gluing.specs.Triangulation.{IsTriangulation, face_sides, triangulation_of};
 ghost use Rattle.fs_gluing.specs.FirstCut.{IsFirstCut, way_vector, glued_way, fan_of, fans_from};
+ghost use Rattle.fs_quadratic.specs.Ring.{quadratic, IsPositive};
 ghost use Rattle.fs_triangulate.specs.Fans.{IsInFan, IsFanWay, HasTriangles, half_edge_along, face_bases, fan_triangle, AddsTriangles, AddsHalfEdge};
 
 use fs_fraction::NoMemory;
@@ -25,8 +28,8 @@ pub fn fan_cut(alloc: Global, surface: &Surface) -> Result<Triangles, NoMemory>
     requires strict { surface.now.straight ≡ false }
     ensures first_cut { IfOk result (λ triangles. IsFirstCut surface.now triangles) }
     ensures triangulation { IfOk result (λ triangles. IsTriangulation surface.now.d (triangulation_of triangles)) }
-    // A list of cuts leads from the surface to its faces.
-    ensures cut { IfOk result (λ triangles. IsCutFrom surface.now (triangulation_of triangles)) }
+    // A list of cuts leads from the surface to its faces, and carries each half-edge from its home.
+    ensures cut { IfOk result (λ triangles. AreEqualWithHomes (quadratic surface.now.d) (IsPositive surface.now.d) (is_ahead surface.now.d) (polygon_sides surface.now.polygons) (face_sides (triangulation_of triangles)) (home_of triangles.homes)) }
     // The vector of each half-edge is in the sector of its home.
     ensures homes { IfOk result (λ triangles. HasHomes surface.now (triangulation_of triangles) triangles.homes) }
 {

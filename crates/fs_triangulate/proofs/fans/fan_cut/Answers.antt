@@ -1,4 +1,4 @@
--- The triangles of all fans are the first cut; they are a triangulation, a list of cuts leads to them, and their half-edges have homes.
+-- The triangles of all fans are the first cut; they are a triangulation, a list of cuts leads to them, and their half-edges have homes, from which the list carries them.
 use Rattle.fs_triangulate.proofs.FirstCutLaws.{first_cut_of_fans}
 use Rattle.fs_triangulate.proofs.FanTriangulation.{fan_is_triangulation}
 use Rattle.fs_triangulate.proofs.FanCuts.{fan_is_cut}
