@@ -168,6 +168,7 @@ impl Progress {
     }
 
     // Closes the current component.
+    #[inline(never)]
     fn close(&mut self, alloc: Global, kind: Kind) -> Result<(), AllocError>
         requires open { IsOpen self.old.point.components }
         requires few { self.old.numbered + 1 < 2 ^ 32 }
@@ -183,6 +184,7 @@ impl Progress {
     }
 
     // Splits it after k letters.
+    #[inline(never)]
     fn split(&mut self, alloc: Global, k: u32) -> Result<(), Stop>
         requires going { self.old.point.looped ≡ false }
         requires choice { IsChoice self.old.point.components (Choice.Split k) }
@@ -204,6 +206,7 @@ impl Progress {
     }
 
     // Compares its last letters.
+    #[inline(always)]
     fn compare(&mut self, alloc: Global) -> Result<(), Stop>
         requires going { self.old.point.looped ≡ false }
         requires choice { IsChoice self.old.point.components Choice.Compare }
@@ -234,6 +237,7 @@ impl Progress {
     }
 
     // After a won comparison: compares the component with its checkpoint.
+    #[inline(always)]
     fn look_back(&mut self, alloc: Global, logged: Logged) -> Result<(), Stop>
         requires open { IsOpen self.old.point.components }
         requires saved { IsSome self.old.point.saved }
@@ -260,6 +264,7 @@ impl Progress {
     }
 
     // Notes an event, and what it found. Each but a closing has a number.
+    #[inline(always)]
     fn note(&mut self, logged: Logged) -> Result<(), AllocError>
         requires { self.old.numbered + 1 < 2 ^ 32 }
         ensures { OnOk result (self.new ≡ record self.old { numbered = counted logged.event self.old.numbered; point = noted logged self.old.point }) }
@@ -289,6 +294,7 @@ impl Progress {
     }
 
     // Saves the state.
+    #[inline(never)]
     fn save(&mut self, alloc: Global) -> Result<(), AllocError>
         ensures { OnOk result (self.new ≡ record self.old { point = saved_now self.old.point }) }
     {
