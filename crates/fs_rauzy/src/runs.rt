@@ -82,7 +82,7 @@ pub struct Progress {
 
 impl Model for Progress {
     ghost use Rattle.std.specs.Prelude.{◌≡◌, reverse};
-    ghost use Rattle.fs_rauzy.specs.RunsInPlace.{ProgressValue, checkpoint_in};
+    ghost use Rattle.fs_rauzy.specs.RunsInPlace.{ProgressValue};
 
     ghost Value = { ProgressValue };
 
@@ -92,7 +92,7 @@ impl Model for Progress {
       point = record {
         components = x.state.components;
         number = x.number;
-        saved = checkpoint_in x.saved;
+        saved = x.saved;
         looped = x.looped;
         steps = x.steps;
         events = x.events.items;
@@ -249,7 +249,7 @@ impl Progress {
         ensures stops { IfErr result (OverflowsWhere self.old.numbered (λ place. IsCompared self.old.d self.old.point (Err place))) }
     {
         match &self.saved {
-            Some(saved) => match self.state.same_shape(&saved.state) {
+            Some(saved) => match self.state.is_like(saved) {
                 Ok(same) => self.looped = same,
                 Err(place) => return Err(self.stop(place)),
             },
@@ -296,12 +296,10 @@ impl Progress {
     // Saves the state.
     #[inline(never)]
     fn save(&mut self, alloc: Global) -> Result<(), AllocError>
+        requires { IsOpen self.old.point.components }
         ensures { OnOk result (self.new ≡ record self.old { point = saved_now self.old.point }) }
     {
-        self.saved = Some(Checkpoint {
-            number: self.number,
-            state: self.state.copy(alloc)?,
-        });
+        self.saved = Some(self.state.checkpoint(alloc, self.number)?);
         Ok(())
     }
 
