@@ -1,9 +1,7 @@
 -- The current components of two states, where they are compared.
-use Rattle.std.proofs.Common.{◌≡◌, ◌≢◌, ℕ, Bool, true, false, not, eqb, ◌<◌, length, List, [], ◌∷◌, drop, Result, Ok, IsTrue, ◌↔◌, IfOk, refl, sym, ap, ◌∙◌, subst}
-use Rattle.std.proofs.lemmas.Bool.Decides.{Decides-eqb}
-use Rattle.std.proofs.lemmas.Slice.Eq.{slice_eq-Decides}
+use Rattle.std.proofs.Common.{◌≡◌, ◌≢◌, ℕ, ◌+◌, Bool, true, false, ◌<◌, length, get_or, arith, List, [], ◌∷◌, drop, Result, Ok, IsTrue, ◌↔◌, IfOk, sym, ap, ◌∙◌, subst}
+use Rattle.std.proofs.lemmas.List.{length-map, get_or-map, drop_more}
 use Rattle.std.specs.List.{AllByRecursion}
-use Rattle.std.specs.Cmp.Lexicographic.{pointwise}
 use Rattle.fs_quadratic.specs.declared.steps.Place.{Place}
 use Rattle.fs_gluing.specs.Exchanges.{Letter, Component, names_of}
 use Rattle.fs_rauzy.specs.declared.rows.Extent.{Extent}
@@ -14,19 +12,12 @@ use Rattle.fs_rauzy.specs.Steps.{AtCurrent, AtBoth}
 use Rattle.fs_rauzy.proofs.AlikeComponents.{alike_of_comparison}
 use Rattle.fs_rauzy.proofs.OpenedRows.{now_named, now_within}
 
--- what the test for different rows tells
-pub differing : (xs ys : List ℕ) (b : Bool) → b ≡ not (pointwise eqb xs ys) → b ≡ true → xs ≢ ys
-differing xs ys b e h same = let equal = (slice_eq-Decides Decides-eqb xs ys (pointwise eqb xs ys) refl).1 same in differ (sym h ∙ e ∙ ap not equal)
+-- what a test refutes
+pub refuted : {P : Type 0} (b : Bool) → b ≡ false → (IsTrue b ↔ P) → ¬ P
+refuted b e h p = differ (sym (h.1 p) ∙ e)
   where
     differ : true ≡ false → ⊥
     differ e = cc
-
-pub equal_tested : (xs ys : List ℕ) (b : Bool) → b ≡ not (pointwise eqb xs ys) → b ≡ false → xs ≡ ys
-equal_tested xs ys b e h = (slice_eq-Decides Decides-eqb xs ys (pointwise eqb xs ys) refl).0 (of_not (pointwise eqb xs ys) (sym e ∙ h))
-  where
-    of_not : (b : Bool) → not b ≡ false → b ≡ true
-    of_not true e = refl
-    of_not false e = cc
 
 -- the component of the last extent is the current one
 pub record IsCurrent (letters : List Letter) (top bottom : List ℕ) (e : Extent) (components : List Component) : Type 0 where
@@ -84,6 +75,38 @@ module _ {old_letters letters : List Letter} {old_top old_bottom top bottom : Li
         (subst (λ r. IsComparison d (component_at old_letters old_top old_bottom old) (component_at letters top bottom e) r)
         (sym (is ∙ ap (λ names. checked_proportion d old.total e.total 0 (letters_at old_letters names) (letters_at letters (drop e.first top))) same))
         (equal_rows (record { top = named_now after ∙ same ∙ sym (named_now before); bottom = below })))
+
+-- the current component is compared with a saved one
+module _ (saved : Component) {letters : List Letter} {top bottom : List ℕ} {e : Extent} {components : List Component} (after : IsCurrent letters top bottom e components) (d : ℕ) where
+  saved_differs : ¬ HaveEqualRows saved (component_at letters top bottom e) → AtCurrent (λ c. IsComparison d saved c (Ok false)) components
+  saved_differs differ = at_current after (λ c. IsComparison d saved c (Ok false)) (other_rows differ)
+
+  -- one with other rows isn't compared further
+  pub saved_bottom_differs : ¬ (drop e.first bottom ≡ saved.bottom) → AtCurrent (λ c. IsComparison d saved c (Ok false)) components
+  saved_bottom_differs differ = saved_differs (λ rows. differ rows.bottom)
+
+  pub saved_top_differs : ¬ (names_of saved.top ≡ drop e.first top) → AtCurrent (λ c. IsComparison d saved c (Ok false)) components
+  saved_top_differs differ = saved_differs (λ rows. differ (sym rows.top ∙ named_now after))
+
+  -- where the rows are equal, the lengths are compared
+  pub saved_compared : (result : Result Bool Place) → names_of saved.top ≡ drop e.first top → drop e.first bottom ≡ saved.bottom
+      → result ≡ checked_proportion d saved.total e.total 0 saved.top (letters_at letters (drop e.first top)) → AtCurrent (λ c. IsComparison d saved c result) components
+  saved_compared result same below is =
+      at_current after (λ c. IsComparison d saved c result)
+      (subst (λ r. IsComparison d saved (component_at letters top bottom e) r) (sym is) (equal_rows (record { top = named_now after ∙ sym same; bottom = below })))
+
+-- letters with these names are as many
+pub as_many_named : (letters : List Letter) (names : List ℕ) → names_of letters ≡ names → length letters ≡ length names
+as_many_named letters names same = sym (length-map letters (λ (l : Letter). l.name)) ∙ ap length same
+
+-- one letter more has its name
+pub named_more : (letters : List Letter) (names : List ℕ) (letter : Letter) (m n : ℕ) → m + 1 ≡ n → m < length letters → m < length names → letter ≡ get_or letters m letter → letter.name ≡ get_or names m 0
+    → drop n (names_of letters) ≡ drop n names → drop m (names_of letters) ≡ drop m names
+named_more letters names letter m n e l k is name rest =
+    let long = length-map letters (λ (x : Letter). x.name) in
+    let head : get_or (names_of letters) m 0 ≡ get_or names m 0 = get_or-map (λ (x : Letter). x.name) letters m letter 0 l ∙ ap (λ (x : Letter). x.name) (sym is) ∙ name in
+    let tail : drop (m + 1) (names_of letters) ≡ drop (m + 1) names = subst (λ j. drop j (names_of letters) ≡ drop j names) (sym e) rest in
+    drop_more (names_of letters) m 0 (omega arith) ∙ (λ i. head i ∷ tail i) ∙ sym (drop_more names m 0 k)
 
 -- the result of a comparison tells whether the components are alike
 pub alike_at_both : (d : ℕ) (result : Result Bool Place) (old_components components : List Component) → AtBoth (λ before after. IsComparison d before after result) old_components components

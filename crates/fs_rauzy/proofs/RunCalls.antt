@@ -1,5 +1,5 @@
 -- The calls on a run under way, by the values that they see: x is what its fields say, and now its value.
-use Rattle.std.proofs.Common.{◌≡◌, ℕ, ◌+◌, ◌<◌, ◌≤◌, Bool, true, false, cond, Option, Some, IsSome, Result, Ok, Err, OnOk, IfErr, List, [], ◌∷◌, ◌++◌, reverse, refl, sym, ap, ◌∙◌, subst, inl, inr, arith}
+use Rattle.std.proofs.Common.{◌≡◌, ℕ, ◌+◌, ◌<◌, ◌≤◌, Bool, true, false, cond, Some, Result, Ok, Err, OnOk, IfErr, List, [], ◌∷◌, ◌++◌, reverse, refl, sym, ap, ◌∙◌, subst, inl, inr, arith}
 use Rattle.std.proofs.lemmas.List.{reverse-append}
 use Rattle.fs_quadratic.specs.declared.steps.Place.{Place}
 use Rattle.fs_plane.specs.declared.sites.Site.TheVariants as sites
@@ -8,7 +8,6 @@ use Rattle.fs_plane.specs.declared.sites.Stop.TheVariants.{Undecided, Overflow, 
 use Rattle.std.specs.List.{AllByRecursion}
 use Rattle.fs_quadratic.proofs.Laws.{field_order}
 use Rattle.fs_gluing.specs.Exchanges.{Component, IsLawful}
-use Rattle.fs_rauzy.specs.declared.checkpoints.Checkpoint.{Checkpoint as Saved}
 use Rattle.fs_rauzy.specs.declared.events.Event.{Event}
 use Rattle.fs_rauzy.specs.declared.events.Event.TheVariants.{Won, Merged, Split, Closed}
 use Rattle.fs_rauzy.specs.declared.parts.Kind.{Kind}
@@ -19,7 +18,7 @@ use Rattle.fs_rauzy.specs.declared.states.Choice.TheVariants as choices
 use Rattle.fs_rauzy.specs.Events.{Outcome}
 use Rattle.fs_rauzy.specs.Rule.{IsNext, is_step}
 use Rattle.fs_rauzy.specs.Runs.{Point, Checkpoint, part_of, is_numbered, event_number, BeginsAnew, Goes}
-use Rattle.fs_rauzy.specs.RunsInPlace.{ProgressValue, noted, renumbered, checkpoint_of, checkpoint_in, counted, Counts, ClosesTo, IsCompared, LooksTo, LooksBack, OverflowsWhere, budget_spent, StopsRun, StopsFrom, CanGo}
+use Rattle.fs_rauzy.specs.RunsInPlace.{ProgressValue, noted, renumbered, counted, Counts, ClosesTo, IsCompared, LooksTo, LooksBack, OverflowsWhere, budget_spent, StopsRun, StopsFrom, CanGo}
 use Rattle.fs_rauzy.specs.StatesInPlace.{IsChoice}
 use Rattle.fs_rauzy.specs.Steps.{AtCurrent, SplitsAt, IsMadeBy, IsStoppedBy}
 use Rattle.fs_rauzy.proofs.NumberedEvents.{event_number-append}
@@ -102,18 +101,12 @@ module _ (x now : ProgressValue) (same : x ≡ now) where
       (changes.closes_to x.d kind part logged after x.point q is_part made
       (e ∙ ap renumbered b ∙ ap (λ ps. renumbered (noted logged (record x.point { components = after; parts = ps }))) turned))
 
-  checkpoint_number : (number : ℕ) (components : List Component) → IsSome (checkpoint_of number components) → (s : Checkpoint) × (checkpoint_of number components ≡ Some s) × (s.number ≡ number)
-  checkpoint_number number [] h = absurd cc
-  checkpoint_number number (c ∷ rest) h = (record { number = number; component = c }, refl, refl)
-
   -- a loop closes
-  pub loop_goes : (saved : Option Saved) (s : Saved) (q : Point) → x.point.saved ≡ checkpoint_in saved → saved ≡ Some s → now.point.looped ≡ true → IsSome now.point.saved
-      → ClosesTo (Looped s.number x.point.number) now.point q → Goes now.d now.point q
-  loop_goes saved s q is_saved is looped some closes =
-      let in_place : now.point.saved ≡ checkpoint_of s.number s.state.components = ap (λ (v : ProgressValue). v.point.saved) (sym same) ∙ is_saved ∙ ap checkpoint_in is in
-      let found = checkpoint_number s.number s.state.components (subst IsSome in_place some) in
-      let closes_now : ClosesTo (Looped s.number now.point.number) now.point q = subst (λ (v : ProgressValue). ClosesTo (Looped s.number v.point.number) now.point q) same closes in
-      changes.goes_by_loop now.d now.point q found.0 looped (in_place ∙ found.1) (subst (λ n. ClosesTo (Looped n now.point.number) now.point q) (sym found.2) closes_now)
+  pub loop_goes : (s : Checkpoint) (from : ℕ) (q : Point) → x.point.saved ≡ Some s → from ≡ s.number → now.point.looped ≡ true → ClosesTo (Looped from x.point.number) now.point q → Goes now.d now.point q
+  loop_goes s from q is numbered looped closes =
+      let closes_now : ClosesTo (Looped s.number now.point.number) now.point q =
+      subst (λ (v : ProgressValue). ClosesTo (Looped s.number v.point.number) now.point q) same (subst (λ n. ClosesTo (Looped n x.point.number) now.point q) numbered closes) in
+      changes.goes_by_loop now.d now.point q s looped (ap (λ (v : ProgressValue). v.point.saved) (sym same) ∙ is) closes_now
 
   -- a cylinder closes
   pub cylinder_goes : (after : List Component) (q : Point) → after ≡ x.point.components → x.point.looped ≡ false → IsChoice x.point.components choices.Close

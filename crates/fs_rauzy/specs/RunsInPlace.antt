@@ -7,7 +7,6 @@ use Rattle.fs_plane.specs.declared.sites.Site.TheVariants as sites
 use Rattle.fs_plane.specs.declared.sites.Stop.{Stop}
 use Rattle.fs_plane.specs.declared.sites.Stop.TheVariants.{Undecided, Overflow, NoMemory}
 use Rattle.fs_gluing.specs.Exchanges.{Component}
-use Rattle.fs_rauzy.specs.declared.checkpoints.Checkpoint.{Checkpoint as Saved}
 use Rattle.fs_rauzy.specs.declared.events.Event.{Event}
 use Rattle.fs_rauzy.specs.declared.events.Event.TheVariants.{Closed}
 use Rattle.fs_rauzy.specs.declared.parts.Kind.{Kind}
@@ -31,11 +30,6 @@ pub record ProgressValue : Type 0 where
 abbrev pub checkpoint_of : ℕ → List Component → Option Checkpoint
 checkpoint_of number [] = None
 checkpoint_of number (c ∷ rest) = Some (record { number = number; component = c })
-
--- the checkpoint that is saved: of its state the current component counts
-abbrev pub checkpoint_in : Option Saved → Option Checkpoint
-checkpoint_in None = None
-checkpoint_in (Some saved) = checkpoint_of saved.number saved.state.components
 
 -- ---- changes of a point
 

@@ -9,8 +9,10 @@ ghost use Rattle.fs_iet.specs.ExchangeValue.{most_letters};
 ghost use Rattle.fs_rauzy.specs.Comparisons.{IsComparison, checked_proportion};
 ghost use Rattle.fs_rauzy.specs.Loops.{AreAlike};
 ghost use Rattle.fs_rauzy.specs.StatesInPlace.{letters_at};
-ghost use Rattle.fs_rauzy.specs.Steps.{IsOpen, AtBoth};
+ghost use Rattle.fs_gluing.specs.Exchanges.{names_of};
+ghost use Rattle.fs_rauzy.specs.Steps.{IsOpen, AtBoth, AtCurrent};
 
+use crate::checkpoints::Checkpoint;
 use crate::letters::Interval;
 use crate::states::State;
 use fs_plane::Place;
@@ -33,9 +35,10 @@ impl State {
         let now = self.extents.last();
         let before = other.extents.last();
         let top = &self.top[now.first..];
-        if top != &other.top[before.first..]
-            || &self.bottom[now.first..] != &other.bottom[before.first..]
-        {
+        if !are_same(top, &other.top[before.first..]) {
+            return Ok(false);
+        }
+        if !are_same(&self.bottom[now.first..], &other.bottom[before.first..]) {
             return Ok(false);
         }
         is_proportional(
@@ -47,6 +50,95 @@ impl State {
             now.total,
         )
     }
+
+    // Whether the current component is alike to a checkpoint, as by `same_shape`.
+    #[inline(always)]
+    pub(crate) fn is_like(&self, saved: &Checkpoint) -> Result<bool, Place>
+        requires { IsOpen self.now.components }
+        ensures { AtCurrent (λ after. IsComparison self.now.d saved.now.component after result) self.now.components }
+    {
+        let now = self.extents.last();
+        let top = &self.top[now.first..];
+        if !are_same(&self.bottom[now.first..], &saved.bottom) {
+            return Ok(false);
+        }
+        if !are_named(&saved.letters, top) {
+            return Ok(false);
+        }
+        is_in_proportion(
+            self.field,
+            &saved.letters,
+            saved.total,
+            top,
+            &self.letters,
+            now.total,
+        )
+    }
+}
+
+// Whether two rows are the same. They are compared from the end, where rows of one component first differ.
+#[inline(always)]
+fn are_same(row: &[u32], other: &[u32]) -> bool
+    ensures { IsTrue result ↔ (row.now ≡ other.now) }
+{
+    if row.len() != other.len() {
+        return false;
+    }
+    let mut n = row.len();
+    while n > 0 {
+        n -= 1;
+        if row[n] != other[n] {
+            return false;
+        }
+    }
+    true
+}
+
+// Whether the letters have these names, one after another. They are compared from the end.
+#[inline(always)]
+fn are_named(letters: &[Interval], names: &[u32]) -> bool
+    ensures { IsTrue result ↔ (names_of letters.now ≡ names.now) }
+{
+    if letters.len() != names.len() {
+        return false;
+    }
+    let mut n = names.len();
+    while n > 0 {
+        n -= 1;
+        let letter = &letters[n];
+        if letter.name != names[n] {
+            return false;
+        }
+    }
+    true
+}
+
+// Whether the lengths of the letters of these names are in the proportion of the totals, where `before` has the earlier letters in
+// their order.
+#[inline(always)]
+fn is_in_proportion(
+    field: Field,
+    before: &[Interval],
+    total_before: Elem,
+    names: &[u32],
+    after: &[Interval],
+    total: Elem,
+) -> Result<bool, Place>
+    requires as_many { length before.now ≡ length names.now }
+    requires after { AllByRecursion (λ name. name < length after.now) names.now }
+    requires few { length names.now ≤ most_letters }
+    ensures { result ≡ checked_proportion field.d total_before total 0 before.now (letters_at after.now names.now) }
+{
+    for (n, &name) in names.iter().enumerate() {
+        let place = 7 + 2 * n as u32;
+        let (now, then) = (&after[name as usize], &before[n]);
+        let share = find_product(place, field, now.length, total_before)?;
+        let share_before = find_product(place + 1, field, then.length, total)?;
+        if share != share_before {
+            return Ok(false);
+        }
+    }
+    Ok(true)
 }
 
 // Whether the lengths of the letters of these names are in the proportion of the totals.

@@ -22,6 +22,7 @@ use std::cmp::Ordering;
 
 impl State {
     // Compares the last letters of the current component: one wins, or both merge.
+    #[inline(always)]
     pub fn duel(&mut self) -> Result<Logged, Place>
         requires last { AtCurrent CanCompare self.old.components }
         ensures made { IfOk result (λ logged. IsMadeBy self.old.d (λ event. is_step event ≡ true) self.old.components (record { event = logged.event; length = logged.length; components = self.new.components })) }
@@ -42,6 +43,7 @@ impl State {
     }
 
     // The top row's last letter x wins over the bottom row's last letter y.
+    #[inline(always)]
     fn win_above(&mut self, x: u32, y: u32) -> Result<Logged, Place>
         requires last { AtCurrent (λ c. AreLastNames c x y (λ a b. IsLess self.old.d b.length a.length)) self.old.components }
         ensures made { IfOk result (λ logged. IsMadeBy self.old.d (λ event. is_step event ≡ true) self.old.components (record { event = logged.event; length = logged.length; components = self.new.components })) }
@@ -68,6 +70,7 @@ impl State {
     }
 
     // The bottom row's last letter y wins over the top row's last letter x.
+    #[inline(always)]
     fn win_below(&mut self, x: u32, y: u32) -> Result<Logged, Place>
         requires last { AtCurrent (λ c. AreLastNames c x y (λ a b. IsLess self.old.d a.length b.length)) self.old.components }
         ensures made { IfOk result (λ logged. IsMadeBy self.old.d (λ event. is_step event ≡ true) self.old.components (record { event = logged.event; length = logged.length; components = self.new.components })) }
@@ -94,6 +97,7 @@ impl State {
     }
 
     // The last letters x and y, equally long, become one.
+    #[inline(never)]
     fn merge(&mut self, x: u32, y: u32) -> Result<Logged, Place>
         requires last { AtCurrent (λ c. AreLastNames c x y (λ a b. a.length ≡ b.length)) self.old.components }
         ensures made { IfOk result (λ logged. IsMadeBy self.old.d (λ event. is_step event ≡ true) self.old.components (record { event = logged.event; length = logged.length; components = self.new.components })) }

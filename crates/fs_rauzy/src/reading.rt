@@ -1,4 +1,4 @@
-// Copies of states, and the parts that components become.
+// Copies of the current component, and the parts that components become.
 
 ghost use Rattle.std.specs.Prelude.{◌≡◌, ◌<◌, IfOk, length, map};
 ghost use Rattle.std.specs.List.{AllByRecursion};
@@ -6,6 +6,7 @@ ghost use Rattle.fs_rauzy.specs.Runs.{part_of};
 ghost use Rattle.fs_rauzy.specs.StatesInPlace.{letters_at};
 ghost use Rattle.fs_rauzy.specs.Steps.{IsOpen, AtCurrent};
 
+use crate::checkpoints::Checkpoint;
 use crate::letters::Interval;
 use crate::parts::{Kind, Letter, Part};
 use crate::states::State;
@@ -13,18 +14,20 @@ use fs_gluing::Sequence;
 use std::alloc::{AllocError, Global};
 
 impl State {
-    // The same state once more.
-    pub fn copy(&self, alloc: Global) -> Result<State, AllocError>
-        ensures { IfOk result (λ copy. copy ≡ self.now) }
+    // The current component as it is now, with this number.
+    pub fn checkpoint(&self, alloc: Global, number: u32) -> Result<Checkpoint, AllocError>
+        requires { IsOpen self.now.components }
+        ensures { IfOk result (λ saved. AtCurrent (λ c. saved ≡ record { number = number; component = c }) self.now.components) }
     {
-        Ok(State {
-            field: self.field,
-            letters: Vec::from_slice(alloc, &self.letters)?,
-            top: Vec::from_slice(alloc, &self.top)?,
-            bottom: Vec::from_slice(alloc, &self.bottom)?,
-            extents: self.extents.copy(alloc)?,
-            places: Vec::from_slice(alloc, &self.places)?,
-            searched: self.searched,
+        let extent = self.extents.last();
+        let letters = copy_letters(alloc, &self.letters, &self.top[extent.first..])?;
+        let bottom = Vec::from_slice(alloc, &self.bottom[extent.first..])?;
+        Ok(Checkpoint {
+            number,
+            base: extent.base,
+            total: extent.total,
+            letters,
+            bottom,
         })
     }
 
@@ -42,6 +45,22 @@ impl State {
             kind,
         })
     }
+}
+
+// The letters of these names.
+fn copy_letters(
+    alloc: Global,
+    letters: &[Interval],
+    names: &[u32],
+) -> Result<Vec<Interval>, AllocError>
+    requires { AllByRecursion (λ name. name < length letters.now) names.now }
+    ensures { IfOk result (λ list. list.items ≡ letters_at letters.now names.now) }
+{
+    let mut list = Vec::with_capacity(alloc, names.len())?;
+    for &name in names {
+        list.push(letters[name as usize])?;
+    }
+    Ok(list)
 }
 
 // The lengths and the return vectors of the letters of these names.

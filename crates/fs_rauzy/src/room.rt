@@ -31,18 +31,6 @@ impl<T: Copy + Drop> Room<T> {
         })
     }
 
-    // The same stack once more, with as much room.
-    pub fn copy(&self, alloc: Global) -> Result<Room<T>, AllocError>
-        ensures items { IfOk result (λ copy. copy.items ≡ self.now.items) }
-        ensures room { IfOk result (λ copy. self.now.room ≤ copy.room) }
-    {
-        let mut items = Vec::with_capacity(alloc, self.items.capacity())?;
-        for &item in &self.items {
-            items.push(item)?;
-        }
-        Ok(Room { items })
-    }
-
     // Whether there are no items.
     pub fn is_empty(&self) -> bool
         ensures { IsTrue result ↔ (self.now.items ≡ []) }

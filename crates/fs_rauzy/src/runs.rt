@@ -82,7 +82,7 @@ pub struct Progress {
 
 impl Model for Progress {
     ghost use Rattle.std.specs.Prelude.{◌≡◌, reverse};
-    ghost use Rattle.fs_rauzy.specs.RunsInPlace.{ProgressValue, checkpoint_in};
+    ghost use Rattle.fs_rauzy.specs.RunsInPlace.{ProgressValue};
 
     ghost Value = { ProgressValue };
 
@@ -92,7 +92,7 @@ impl Model for Progress {
       point = record {
         components = x.state.components;
         number = x.number;
-        saved = checkpoint_in x.saved;
+        saved = x.saved;
         looped = x.looped;
         steps = x.steps;
         events = x.events.items;
@@ -168,6 +168,7 @@ impl Progress {
     }
 
     // Closes the current component.
+    #[inline(never)]
     fn close(&mut self, alloc: Global, kind: Kind) -> Result<(), AllocError>
         requires open { IsOpen self.old.point.components }
         requires few { self.old.numbered + 1 < 2 ^ 32 }
@@ -183,6 +184,7 @@ impl Progress {
     }
 
     // Splits it after k letters.
+    #[inline(never)]
     fn split(&mut self, alloc: Global, k: u32) -> Result<(), Stop>
         requires going { self.old.point.looped ≡ false }
         requires choice { IsChoice self.old.point.components (Choice.Split k) }
@@ -204,6 +206,7 @@ impl Progress {
     }
 
     // Compares its last letters.
+    #[inline(always)]
     fn compare(&mut self, alloc: Global) -> Result<(), Stop>
         requires going { self.old.point.looped ≡ false }
         requires choice { IsChoice self.old.point.components Choice.Compare }
@@ -234,6 +237,7 @@ impl Progress {
     }
 
     // After a won comparison: compares the component with its checkpoint.
+    #[inline(always)]
     fn look_back(&mut self, alloc: Global, logged: Logged) -> Result<(), Stop>
         requires open { IsOpen self.old.point.components }
         requires saved { IsSome self.old.point.saved }
@@ -245,7 +249,7 @@ impl Progress {
         ensures stops { IfErr result (OverflowsWhere self.old.numbered (λ place. IsCompared self.old.d self.old.point (Err place))) }
     {
         match &self.saved {
-            Some(saved) => match self.state.same_shape(&saved.state) {
+            Some(saved) => match self.state.is_like(saved) {
                 Ok(same) => self.looped = same,
                 Err(place) => return Err(self.stop(place)),
             },
@@ -260,6 +264,7 @@ impl Progress {
     }
 
     // Notes an event, and what it found. Each but a closing has a number.
+    #[inline(always)]
     fn note(&mut self, logged: Logged) -> Result<(), AllocError>
         requires { self.old.numbered + 1 < 2 ^ 32 }
         ensures { OnOk result (self.new ≡ record self.old { numbered = counted logged.event self.old.numbered; point = noted logged self.old.point }) }
@@ -289,13 +294,12 @@ impl Progress {
     }
 
     // Saves the state.
+    #[inline(never)]
     fn save(&mut self, alloc: Global) -> Result<(), AllocError>
+        requires { IsOpen self.old.point.components }
         ensures { OnOk result (self.new ≡ record self.old { point = saved_now self.old.point }) }
     {
-        self.saved = Some(Checkpoint {
-            number: self.number,
-            state: self.state.copy(alloc)?,
-        });
+        self.saved = Some(self.state.checkpoint(alloc, self.number)?);
         Ok(())
     }
 
