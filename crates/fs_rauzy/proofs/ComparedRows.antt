@@ -1,5 +1,8 @@
 -- The current components of two states, where they are compared.
-use Rattle.std.proofs.Common.{◌≡◌, ◌≢◌, ℕ, ◌+◌, Bool, true, false, ◌<◌, length, get_or, arith, List, [], ◌∷◌, drop, Result, Ok, IsTrue, ◌↔◌, IfOk, sym, ap, ◌∙◌, subst}
+use Rattle.std.proofs.Common.{◌≡◌, ◌⊎◌, inl, inr, eqb, cond, ◌≢◌, ℕ, ◌+◌, Bool, true, false, ◌<◌, length, get_or, arith, List, [], ◌∷◌, drop, Result, Ok, IsTrue, ◌↔◌, IfOk, sym, ap, ◌∙◌, subst}
+use Rattle.std.proofs.lemmas.Bool.Decides.{Decides-eqb}
+use Rattle.std.proofs.lemmas.Slice.Eq.{slice_eq-Decides}
+use Rattle.std.specs.Cmp.Lexicographic.{pointwise}
 use Rattle.std.proofs.lemmas.List.{length-map, get_or-map, drop_more}
 use Rattle.std.specs.List.{AllByRecursion}
 use Rattle.fs_quadratic.specs.declared.steps.Place.{Place}
@@ -18,6 +21,17 @@ refuted b e h p = differ (sym (h.1 p) ∙ e)
   where
     differ : true ≡ false → ⊥
     differ e = cc
+
+-- rows are equal, or not
+decide_names : (xs ys : List ℕ) → (xs ≡ ys) ⊎ (¬ (xs ≡ ys))
+decide_names xs ys = by_test (pointwise eqb xs ys) (λ i. pointwise eqb xs ys)
+  where
+    differ : true ≡ false → ⊥
+    differ e = cc
+
+    by_test : (b : Bool) → b ≡ pointwise eqb xs ys → (xs ≡ ys) ⊎ (¬ (xs ≡ ys))
+    by_test true e = inl ((slice_eq-Decides Decides-eqb xs ys (pointwise eqb xs ys) (λ i. pointwise eqb xs ys)).0 (sym e))
+    by_test false e = inr (λ same. differ (sym ((slice_eq-Decides Decides-eqb xs ys (pointwise eqb xs ys) (λ i. pointwise eqb xs ys)).1 same) ∙ sym e))
 
 -- the component of the last extent is the current one
 pub record IsCurrent (letters : List Letter) (top bottom : List ℕ) (e : Extent) (components : List Component) : Type 0 where
@@ -78,22 +92,62 @@ module _ {old_letters letters : List Letter} {old_top old_bottom top bottom : Li
 
 -- the current component is compared with a saved one
 module _ (saved : Component) {letters : List Letter} {top bottom : List ℕ} {e : Extent} {components : List Component} (after : IsCurrent letters top bottom e components) (d : ℕ) where
-  saved_differs : ¬ HaveEqualRows saved (component_at letters top bottom e) → AtCurrent (λ c. IsComparison d saved c (Ok false)) components
-  saved_differs differ = at_current after (λ c. IsComparison d saved c (Ok false)) (other_rows differ)
-
-  -- one with other rows isn't compared further
-  pub saved_bottom_differs : ¬ (drop e.first bottom ≡ saved.bottom) → AtCurrent (λ c. IsComparison d saved c (Ok false)) components
-  saved_bottom_differs differ = saved_differs (λ rows. differ rows.bottom)
-
+  -- components with other rows aren't compared further
   pub saved_top_differs : ¬ (names_of saved.top ≡ drop e.first top) → AtCurrent (λ c. IsComparison d saved c (Ok false)) components
-  saved_top_differs differ = saved_differs (λ rows. differ (sym rows.top ∙ named_now after))
+  saved_top_differs differ = at_current after (λ c. IsComparison d saved c (Ok false)) (other_rows (λ rows. differ (sym rows.top ∙ named_now after)))
 
-  -- where the rows are equal, the lengths are compared
-  pub saved_compared : (result : Result Bool Place) → names_of saved.top ≡ drop e.first top → drop e.first bottom ≡ saved.bottom
-      → result ≡ checked_proportion d saved.total e.total 0 saved.top (letters_at letters (drop e.first top)) → AtCurrent (λ c. IsComparison d saved c result) components
-  saved_compared result same below is =
-      at_current after (λ c. IsComparison d saved c result)
-      (subst (λ r. IsComparison d saved (component_at letters top bottom e) r) (sym is) (equal_rows (record { top = named_now after ∙ sym same; bottom = below })))
+  -- what the tests of the rows tell
+  pub rows_differ_below : ¬ (drop e.first bottom ≡ saved.bottom) → AtCurrent (λ c. IsTrue false ↔ HaveEqualRows saved c) components
+  rows_differ_below differ = at_current after (λ c. IsTrue false ↔ HaveEqualRows saved c) (λ t. absurd (none t), λ rows. absurd (differ rows.bottom))
+    where
+      none : false ≡ true → ⊥
+      none e = cc
+
+  pub rows_as_above : (b : Bool) → drop e.first bottom ≡ saved.bottom → (IsTrue b ↔ (names_of saved.top ≡ drop e.first top)) → AtCurrent (λ c. IsTrue b ↔ HaveEqualRows saved c) components
+  rows_as_above b below h =
+      at_current after (λ c. IsTrue b ↔ HaveEqualRows saved c)
+      (λ t. record { top = named_now after ∙ sym (h.0 t); bottom = below }, λ rows. h.1 (sym rows.top ∙ named_now after))
+
+  rows_now : (b : Bool) → AtCurrent (λ c. IsTrue b ↔ HaveEqualRows saved c) components → IsTrue b ↔ HaveEqualRows saved (component_at letters top bottom e)
+  rows_now b h =
+      subst (AtCurrent (λ c. IsTrue b ↔ HaveEqualRows saved c))
+      (sym (ap (λ (x : List Extent). opened letters top bottom x) (sym after.now) ∙ after.is)) h
+
+  -- the lengths count where the rows are equal
+  pub saved_compared : (b : Bool) (result : Result Bool Place) → AtCurrent (λ c. IsTrue b ↔ HaveEqualRows saved c) components
+      → result ≡ checked_proportion d saved.total e.total 0 saved.top (letters_at letters (drop e.first top)) → AtCurrent (λ c. IsComparison d saved c (cond b result (Ok false))) components
+  saved_compared b result rows is = at_current after (λ c. IsComparison d saved c (cond b result (Ok false))) (by_rows b (rows_now b rows))
+    where
+      by_rows : (b : Bool) → IsTrue b ↔ HaveEqualRows saved (component_at letters top bottom e) → IsComparison d saved (component_at letters top bottom e) (cond b result (Ok false))
+      by_rows true h = subst (λ r. IsComparison d saved (component_at letters top bottom e) r) (sym is) (equal_rows (h.0 (λ i. true)))
+      by_rows false h = other_rows (λ rows. none (h.1 rows))
+        where
+          none : false ≡ true → ⊥
+          none e = cc
+
+  -- where they are in proportion the rows decide
+  pub saved_in_proportion : (b : Bool) (result : Result Bool Place) → AtCurrent (λ c. IsTrue b ↔ HaveEqualRows saved c) components
+      → result ≡ checked_proportion d saved.total e.total 0 saved.top (letters_at letters (drop e.first top)) → result ≡ Ok true → AtCurrent (λ c. IsComparison d saved c (Ok b)) components
+  saved_in_proportion b result rows is same = subst (λ r. AtCurrent (λ c. IsComparison d saved c r) components) (ap (λ (r : Result Bool Place). cond b r (Ok false)) same ∙ chosen b) (saved_compared b result rows is)
+    where
+      both : Bool → Result Bool Place
+      both b = cond b (Ok true) (Ok false)
+
+      chosen : (b : Bool) → both b ≡ Ok b
+      chosen true = λ i. Ok true
+      chosen false = λ i. Ok false
+
+  -- nor does one need to know of the rows where the lengths aren't in proportion
+  pub saved_not_in_proportion : (result : Result Bool Place) → result ≡ checked_proportion d saved.total e.total 0 saved.top (letters_at letters (drop e.first top)) → result ≡ Ok false
+      → AtCurrent (λ c. IsComparison d saved c (Ok false)) components
+  saved_not_in_proportion result is other =
+      at_current after (λ c. IsComparison d saved c (Ok false)) (elim (decide_names (names_of saved.top) (drop e.first top)) [
+        | inl same ↦ elim (decide_names (drop e.first bottom) saved.bottom) [
+          | inl below ↦ subst (λ r. IsComparison d saved (component_at letters top bottom e) r) (sym is ∙ other) (equal_rows (record { top = named_now after ∙ sym same; bottom = below }))
+          | inr differ ↦ other_rows (λ rows. differ rows.bottom)
+        ]
+        | inr differ ↦ other_rows (λ rows. differ (sym rows.top ∙ named_now after))
+      ])
 
 -- letters with these names are as many
 pub as_many_named : (letters : List Letter) (names : List ℕ) → names_of letters ≡ names → length letters ≡ length names

@@ -6,7 +6,7 @@ ghost use Rattle.fs_quadratic.specs.Checked.{checked_product};
 ghost use Rattle.fs_quadratic.specs.Ring.{mul};
 ghost use Rattle.fs_quadratic.specs.Width.{IsSmall};
 ghost use Rattle.fs_iet.specs.ExchangeValue.{most_letters};
-ghost use Rattle.fs_rauzy.specs.Comparisons.{IsComparison, checked_proportion};
+ghost use Rattle.fs_rauzy.specs.Comparisons.{HaveEqualRows, IsComparison, checked_proportion};
 ghost use Rattle.fs_rauzy.specs.Loops.{AreAlike};
 ghost use Rattle.fs_rauzy.specs.StatesInPlace.{letters_at};
 ghost use Rattle.fs_gluing.specs.Exchanges.{names_of};
@@ -59,25 +59,47 @@ impl State {
     {
         let now = self.extents.last();
         let top = &self.top[now.first..];
-        if !are_same(&self.bottom[now.first..], &saved.bottom) {
+        let letters: &[Interval] = &saved.letters;
+        if letters.len() != top.len() {
             return Ok(false);
         }
-        if !are_named(&saved.letters, top) {
-            return Ok(false);
-        }
-        is_in_proportion(
+        // Mostly the rows are equal, and the lengths of the first letter tell that they aren't in proportion.
+        match is_in_proportion(
             self.field,
-            &saved.letters,
+            letters,
             saved.total,
             top,
             &self.letters,
             now.total,
-        )
+        ) {
+            Ok(false) => Ok(false),
+            Ok(true) => Ok(self.has_rows(saved)),
+            Err(place) => {
+                if self.has_rows(saved) {
+                    Err(place)
+                } else {
+                    Ok(false)
+                }
+            }
+        }
+    }
+
+    // Whether the rows of the current component are those of a checkpoint.
+    #[inline(never)]
+    fn has_rows(&self, saved: &Checkpoint) -> bool
+        requires { IsOpen self.now.components }
+        ensures { AtCurrent (λ c. IsTrue result ↔ HaveEqualRows saved.now.component c) self.now.components }
+    {
+        let first = self.extents.last().first;
+        if !are_same(&self.bottom[first..], &saved.bottom) {
+            return false;
+        }
+        are_named(&saved.letters, &self.top[first..])
     }
 }
 
-// Whether two rows are the same. They are compared from the end, where rows of one component first differ.
-#[inline(always)]
+// Whether two rows are the same. They are compared from the end.
+#[inline(never)]
 fn are_same(row: &[u32], other: &[u32]) -> bool
     ensures { IsTrue result ↔ (row.now ≡ other.now) }
 {
@@ -95,7 +117,7 @@ fn are_same(row: &[u32], other: &[u32]) -> bool
 }
 
 // Whether the letters have these names, one after another. They are compared from the end.
-#[inline(always)]
+#[inline(never)]
 fn are_named(letters: &[Interval], names: &[u32]) -> bool
     ensures { IsTrue result ↔ (names_of letters.now ≡ names.now) }
 {
@@ -167,26 +189,31 @@ fn is_proportional(
     Ok(true)
 }
 
-// The product, or this place where it overflows. That of two small rational numbers takes one multiplication.
+// The product, or this place where it overflows.
 #[inline(always)]
 fn find_product(place: u32, field: Field, x: Elem, y: Elem) -> Result<Elem, Place>
     ensures { result ≡ checked_product field.d place x y }
 {
-    if is_plain(x) && is_plain(y) {
-        return Ok(plain_product(field, x, y));
+    if x.is_small() && y.is_small() {
+        return Ok(small_product(field, x, y));
     }
     product_at(place, field, x, y)
 }
 
-// Whether a number is rational and small.
+// The product of two small numbers. That of rational ones takes one multiplication.
 #[inline(always)]
-fn is_plain(x: Elem) -> bool
-    ensures { IsTrue result ↔ ((x.q ≡ pos 0) × IsSmall x) }
+fn small_product(field: Field, x: Elem, y: Elem) -> Elem
+    requires left { IsSmall x }
+    requires right { IsSmall y }
+    ensures { result ≡ mul field.d x y }
 {
-    x.q() == 0 && x.is_small()
+    if x.q() == 0 && y.q() == 0 {
+        return plain_product(field, x, y);
+    }
+    field.mul_small(x, y)
 }
 
-// The product of two such numbers.
+// The product of two small rational numbers.
 #[inline(always)]
 fn plain_product(field: Field, x: Elem, y: Elem) -> Elem
     requires left { IsSmall x }

@@ -101,7 +101,19 @@ pub fn find_won(
             vector: sum_in_room(vector, winner.back),
         });
     }
-    find_won_checked(winner, loser, total, vector)
+    let WonNumbers {
+        length,
+        total,
+        back,
+        vector,
+    } = find_won_checked(winner, loser, total, vector)?;
+    // Part by part, so that no call writes to the memory of the numbers in the common case.
+    Ok(WonNumbers {
+        length,
+        total,
+        back,
+        vector,
+    })
 }
 
 // The same, by checked computations.
