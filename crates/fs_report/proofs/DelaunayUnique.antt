@@ -148,6 +148,10 @@ module _ (s : GluedPolygons) (budget : ℕ) (surface : IsSurface s) (strict : s.
   pub found_mesh : (edges : List ℕ) (m : MeshValue) → IsDelaunayOf s budget edges m → IsMesh m
   found_mesh edges m a = (run_to a.start budget (Ok (record { edges = edges; mesh = m })) (first_is_mesh a.start a.first) a.ends).mesh
 
+  -- it is one of the surface
+  pub found_surface : (edges : List ℕ) (m : MeshValue) → IsDelaunayOf s budget edges m → m.surface ≡ s
+  found_surface edges m a = (run_to a.start budget (Ok (record { edges = edges; mesh = m })) (first_is_mesh a.start a.first) a.ends).surface ∙ a.first.surface
+
   -- ---- `delaunay`
 
   -- `delaunay` has one answer at most

@@ -13,14 +13,16 @@ use Rattle.fs_delaunay.specs.Results.{DelaunayValue, ReturnsRun}
 use Rattle.fs_fan.specs.Search as search
 use Rattle.fs_fan.specs.Search.{Findings, EndsSearch}
 use Rattle.fs_saddles.specs.declared.saddles.Saddles.{Saddles}
-use Rattle.fs_saddles.specs.Saddles.{SaddleList, IsSaddlesOf, EndsSaddles, ReturnsSaddles, bound_overflows, search_stops, keep_overflows, home_overflows, listed}
+use Rattle.fs_saddles.specs.WholeLists.{IsSaddleListOf}
+use Rattle.fs_saddles.specs.Saddles.{SaddleList, EndsSaddles, ReturnsSaddles, bound_overflows, search_stops, keep_overflows, home_overflows, listed}
 use Rattle.fs_saddles.proofs.EndExists.{saddles_end_exists}
 use Rattle.fs_saddles.proofs.EndsUnique.{end_unique}
 use Rattle.fs_saddles.proofs.SaddleLists.{saddles_of_end}
+use Rattle.fs_saddles.proofs.WholeLists.{whole_list}
 use Rattle.fs_report.specs.Text.{overflow_line}
 use Rattle.fs_report.specs.DelaunayText.{IsDelaunayOf, IsStopText, AnswersStopped}
 use Rattle.fs_report.specs.SaddlesText.{AnswersSaddles, whole, overflowed, undecided, not_triangulated, IsListStopText, saddles_words, saddles_text, live_line}
-use Rattle.fs_report.proofs.DelaunayUnique.{stopped_unique, found_unique, not_found_and_stopped, found_mesh, run_exists, answered_at_stop, same_surface, is_delaunay_of}
+use Rattle.fs_report.proofs.DelaunayUnique.{stopped_unique, found_unique, not_found_and_stopped, found_mesh, found_surface, run_exists, answered_at_stop, same_surface, is_delaunay_of}
 
 -- ---- how a list ends
 
@@ -111,13 +113,13 @@ module _ (s : GluedPolygons) (budget : ℕ) (limit : Quadratic) where
   -- ---- there is an answer
 
   -- the list of a mesh, or where it stops
-  list_at : (edges : List ℕ) (m : MeshValue) → IsMesh m → IsDelaunayOf s budget edges m → (end : Result SaddleList Stop) → EndsSaddles m limit budget end → (text : List ℕ) × (partial : Bool) × AnswersSaddles s budget limit text partial
-  list_at edges m mesh run (Ok saddles) ends = (_, _, whole edges m saddles run ends (saddles_of_end m mesh limit budget saddles ends) refl refl)
-  list_at edges m mesh run (Err (Overflow site)) ends = (_, _, overflowed edges m site run ends refl refl)
-  list_at edges m mesh run (Err (Undecided n)) ends =
+  list_at : (edges : List ℕ) (m : MeshValue) → IsMesh m → m.surface ≡ s → IsDelaunayOf s budget edges m → (end : Result SaddleList Stop) → EndsSaddles m limit budget end → (text : List ℕ) × (partial : Bool) × AnswersSaddles s budget limit text partial
+  list_at edges m mesh on_surface run (Ok saddles) ends = (_, _, whole edges m saddles run ends (subst (λ (u : GluedPolygons). IsSaddleListOf u limit saddles.list) on_surface (whole_list m mesh limit saddles.list (saddles_of_end m mesh limit budget saddles ends))) refl refl)
+  list_at edges m mesh on_surface run (Err (Overflow site)) ends = (_, _, overflowed edges m site run ends refl refl)
+  list_at edges m mesh on_surface run (Err (Undecided n)) ends =
       let same : n ≡ budget = list_stop_is m limit budget (Err (Undecided n)) ends in
       (_, _, undecided edges m run (subst (λ (k : ℕ). EndsSaddles m limit budget (Err (Undecided k))) same ends) refl refl)
-  list_at edges m mesh run (Err NoMemory) ends = absurd (list_stop_is m limit budget (Err NoMemory) ends)
+  list_at edges m mesh on_surface run (Err NoMemory) ends = absurd (list_stop_is m limit budget (Err NoMemory) ends)
 
   -- `saddles` has an answer
   pub saddles_exist : IsSurface s → s.straight ≡ false → ((text : List ℕ) (partial : Bool) → ¬ AnswersSaddles s budget limit text partial) → ⊥
@@ -126,7 +128,7 @@ module _ (s : GluedPolygons) (budget : ℕ) (limit : Quadratic) where
       (λ edges m run.
       let mesh = found_mesh s budget surface strict edges m run in
       let list = saddles_end_exists m mesh limit budget in
-      let answer = list_at edges m mesh run list.0 list.1 in
+      let answer = list_at edges m mesh (found_surface s budget surface strict edges m run) run list.0 list.1 in
       none answer.0 answer.1 answer.2)
       (λ text stops. none _ _ (not_triangulated stops))
 
@@ -145,11 +147,11 @@ module _ (s : GluedPolygons) (budget : ℕ) (limit : Quadratic) where
       reached = is_delaunay_of s budget mesh first found on_surface is_mesh run is_run
 
       -- a list
-      pub answered_list : (saddles : Saddles) (words text : List ℕ) (partial : Bool) → words ≡ saddles_words limit → ReturnsSaddles (EndsSaddles found.mesh limit budget) (Ok saddles) → IsSaddlesOf found.mesh limit saddles.list
+      pub answered_list : (saddles : Saddles) (words text : List ℕ) (partial : Bool) → words ≡ saddles_words limit → ReturnsSaddles (EndsSaddles found.mesh limit budget) (Ok saddles) → IsSaddleListOf found.mesh.surface limit saddles.list
           → text ≡ saddles_text (unsigned_abs found.mesh.surface.den) words found.edges (record { list = saddles.list; live = saddles.live }) → partial ≡ false → AnswersSaddles s budget limit text partial
       answered_list saddles words text partial same ends is line kind =
           let surfaces = same_surface s budget mesh first found on_surface is_mesh run is_run in
-          whole found.edges found.mesh (record { list = saddles.list; live = saddles.live }) reached ends is
+          whole found.edges found.mesh (record { list = saddles.list; live = saddles.live }) reached ends (subst (λ (u : GluedPolygons). IsSaddleListOf u limit saddles.list) surfaces is)
           (line ∙ (λ i. saddles_text (unsigned_abs ((surfaces i).den)) (same i) found.edges (record { list = saddles.list; live = saddles.live }))) kind
 
       -- a list that stops

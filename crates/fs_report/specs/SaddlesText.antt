@@ -1,4 +1,4 @@
--- The answer to `saddles`: the saddle list of the Delaunay triangulation.
+-- The answer to `saddles`: the saddle list of the surface.
 use Rattle.std.specs.Prelude.{◌≡◌, ℕ, Bool, true, false, Ok, Err, List, ◌++◌, length, codes, unsigned_abs}
 use Rattle.std.specs.Fmt.{decimal}
 use Rattle.std.specs.List.{flat_map}
@@ -11,7 +11,8 @@ use Rattle.fs_plane.specs.declared.sites.Stop.{Stop}
 use Rattle.fs_plane.specs.declared.sites.Stop.TheVariants.{Undecided, Overflow, NoMemory}
 use Rattle.fs_gluing.specs.Surface.{GluedPolygons}
 use Rattle.fs_mesh.specs.Meshes.{MeshValue}
-use Rattle.fs_saddles.specs.Saddles.{SaddleList, IsSaddlesOf, EndsSaddles}
+use Rattle.fs_saddles.specs.Saddles.{SaddleList, EndsSaddles}
+use Rattle.fs_saddles.specs.WholeLists.{IsSaddleListOf}
 use Rattle.fs_report.specs.DelaunayText.{IsDelaunayOf, AnswersStopped, vector_text}
 use Rattle.fs_report.specs.Text.{line_of, corner_text, overflow_line}
 
@@ -48,8 +49,8 @@ IsListStopText NoMemory words text partial = ⊥
 
 -- the answer to `saddles` about a surface, within a budget of flips and as many live words
 pub data AnswersSaddles (s : GluedPolygons) (budget : ℕ) (limit : Quadratic) (text : List ℕ) (partial : Bool) : Type 0 where
-  -- the run leads to a Delaunay triangulation, whose saddle list is this
-  whole : (edges : List ℕ) (m : MeshValue) (saddles : SaddleList) → IsDelaunayOf s budget edges m → EndsSaddles m limit budget (Ok saddles) → IsSaddlesOf m limit saddles.list
+  -- the run leads to a Delaunay triangulation, from which the saddle list of the surface is found
+  whole : (edges : List ℕ) (m : MeshValue) (saddles : SaddleList) → IsDelaunayOf s budget edges m → EndsSaddles m limit budget (Ok saddles) → IsSaddleListOf s limit saddles.list
       → text ≡ saddles_text (unsigned_abs s.den) (saddles_words limit) edges saddles → partial ≡ false → AnswersSaddles s budget limit text partial
   -- a formula of the list overflows
   overflowed : (edges : List ℕ) (m : MeshValue) (site : Site) → IsDelaunayOf s budget edges m → EndsSaddles m limit budget (Err (Overflow site))

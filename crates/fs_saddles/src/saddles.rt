@@ -5,7 +5,8 @@ ghost use Rattle.fs_plane.specs.declared.sites.Stop.{Stop};
 ghost use Rattle.fs_plane.specs.Listing.{keep};
 ghost use Rattle.fs_plane.specs.Vector.{vector_zero};
 ghost use Rattle.fs_gluing.specs.Homes.{home_of, IsFirstCorner, FindsCorner};
-ghost use Rattle.fs_saddles.specs.Saddles.{SaddleList, EndsSaddles, ReturnsSaddles, IsSaddlesOf, IsKeptAs, scaled_bound};
+ghost use Rattle.fs_saddles.specs.Saddles.{SaddleList, EndsSaddles, ReturnsSaddles, IsKeptAs, scaled_bound};
+ghost use Rattle.fs_saddles.specs.WholeLists.{IsSaddleListOf};
 ghost use Rattle.fs_saddles.specs.Keeping.{AreKeepable, AreKeptAs, BoundStops, KeepStops, HomeStops, RayStops, StopsKeeping};
 
 use fs_delaunay::Delaunay;
@@ -45,7 +46,8 @@ pub fn find_saddles(
     ensures saddles { ReturnsSaddles (EndsSaddles delaunay.now.mesh limit budget) result }
     // There is no other end: this is the one that the definition gives.
     ensures only { (end : Result SaddleList Stop) → EndsSaddles delaunay.now.mesh limit budget end → ReturnsSaddles (λ returned. returned ≡ end) result }
-    ensures list { IfOk result (λ saddles. IsSaddlesOf delaunay.now.mesh limit saddles.list) }
+    // Its entries are exactly the saddle connections of the polygons within the bound.
+    ensures list { IfOk result (λ saddles. IsSaddleListOf delaunay.now.mesh.surface limit saddles.list) }
 {
     let mesh = delaunay.mesh();
     // A look at the half-edges makes the invariant of the mesh known here.

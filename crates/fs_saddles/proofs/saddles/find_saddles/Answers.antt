@@ -2,7 +2,9 @@
 use Rattle.std.proofs.Common.{◌≡◌, Ok, Err, length, ap, ◌∙◌, subst, arith}
 use Rattle.fs_lists.specs.Members.{IsIn}
 use Rattle.fs_lists.proofs.Results.{at_exit}
-use Rattle.fs_saddles.specs.Saddles.{EndsSaddles, ReturnsSaddles, IsSaddlesOf, scaled_bound}
+use Rattle.fs_saddles.specs.Saddles.{EndsSaddles, ReturnsSaddles, scaled_bound}
+use Rattle.fs_saddles.specs.WholeLists.{IsSaddleListOf}
+use Rattle.fs_saddles.proofs.WholeLists.{whole_list}
 use Rattle.fs_saddles.specs.Keeping.{AreKeptAs, BoundStops, StopsKeeping}
 use Rattle.fs_saddles.proofs.EndsUnique.{returned_unique}
 use Rattle.fs_saddles.proofs.FoundRays.{few_found, found_keepable}
@@ -67,10 +69,10 @@ returns-clause-only c = returned_unique c.args.delaunay.now.mesh c.args.limit c.
 
 pub returns-clause-list : goal.returns-clause-list
 returns-clause-list c =
-    subst (λ m. IsSaddlesOf m c.args.limit c.from_vec.result) c.mesh-mesh.ensures.mesh
-    (saddles_listed c.mesh-mesh.result.now c.args.limit c.args.budget c.in_ok-bound.bound
+    subst (λ m. IsSaddleListOf m.surface c.args.limit c.from_vec.result) c.mesh-mesh.ensures.mesh
+    (whole_list c.mesh-mesh.result.now c.half_edges.ensures.mesh c.args.limit c.from_vec.result (saddles_listed c.mesh-mesh.result.now c.args.limit c.args.budget c.in_ok-bound.bound
     (subst (λ s. scaled_bound s.d s.den c.args.limit ≡ Ok c.in_ok-bound.bound) c.surface.ensures c.in_ok-bound.ensures.bound)
     (record { found = c.in_ok-fans.fans.found; live = c.in_ok-fans.fans.live }) c.in_ok-fans.ensures.search c.in_ok-list.list c.from_vec.result
     (subst (λ rays. AreKeptAs c.mesh-mesh.result.now rays c.in_ok-list.list) c.as_slice.ensures c.in_ok-list.ensures.kept)
     (sorted_of c.in_ok-list.list c.into_vec-list.result.items c.sort_unstable.new.self.items c.from_vec.result c.into_vec-list.ensures c.from_vec.ensures c.sort_unstable.ensures.permutation c.sort_unstable.ensures.sorted)
-    c.in_ok-fans.ensures.segments c.in_ok-fans.ensures.once)
+    c.in_ok-fans.ensures.segments c.in_ok-fans.ensures.once))
