@@ -1,5 +1,5 @@
 -- The saddle list of a mesh is that of its surface.
-use Rattle.std.proofs.Common.{◌≡◌, ◌⊎◌, ◌==◌, ◌&&◌, ℕ, Bool, true, false, Ok, List, [], ◌∷◌, refl, sym, ap, ◌∙◌, subst, inl, inr}
+use Rattle.std.proofs.Common.{◌≡◌, ◌⊎◌, ◌==◌, ◌&&◌, ℕ, Bool, false, Ok, List, [], ◌∷◌, refl, sym, ap, ◌∙◌, subst, inl, inr}
 use Rattle.std.specs.Bool.{Decides}
 use Rattle.std.specs.List.{AllByRecursion, IsDistinct}
 use Rattle.std.specs.Ordering.{eq_by_cmp}
@@ -40,7 +40,7 @@ use Rattle.fs_gluing.specs.Triangulation.{face_sides}
 use Rattle.fs_gluing.proofs.Sides.GluedSurface.{glued_polygons}
 use Rattle.fs_gluing.proofs.Sides.HalfPlaneTests.{decides_half_planes}
 use Rattle.fs_mesh.specs.Meshes.{MeshValue, IsMesh, IsCutWithHomes}
-use Rattle.fs_mesh.proofs.HalfEdgeNumbers.{side_of_number, number_of_side}
+use Rattle.fs_mesh.proofs.HalfEdgeNumbers.{number_of_side}
 use Rattle.fs_mesh.proofs.HomesCarried.{carried_from_found}
 use Rattle.fs_fan.specs.declared.fans.Ray.{Ray}
 use Rattle.fs_fan.specs.Search.{IsShort, IsShortSegment}
