@@ -4,3 +4,5 @@ pub mod EndsUnique
 pub mod SaddleLists
 pub mod SearchExists
 pub mod EndExists
+pub mod OrderedEntries
+pub mod WholeLists

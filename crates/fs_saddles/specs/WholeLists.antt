@@ -1,6 +1,5 @@
 -- The saddle list of a surface, by its polygons.
 use Rattle.std.specs.Prelude.{◌≡◌, List}
-use Rattle.std.specs.declared.cmp.Ordering.{Ordering}
 use Rattle.std.specs.declared.cmp.Ordering.TheVariants as orderings
 use Rattle.fs_lists.specs.Members.{IsIn}
 use Rattle.fs_quadratic.specs.Ring.{Quadratic, quadratic, IsPositive}
