@@ -1,6 +1,6 @@
 -- Lists that a loop makes item by item: one item more.
 use Rattle.std.proofs.Common.{◌≡◌, ℕ, zero, suc, ◌+◌, ◌-◌, ◌<◌, Some, List, [], ◌∷◌, ◌++◌, length, take, reverse, set, get_or, sym, ap, ◌∙◌, arith, zero-add, add-one}
-use Rattle.std.proofs.lemmas.List.{take_more, get_or-map, length-append, reverse-append, reverse-reverse, set_at}
+use Rattle.std.proofs.lemmas.List.{take_more, get_or-map, length-append, reverse-append, reverse-reverse, set_at, get_or_at}
 use Rattle.std.proofs.lemmas.List.FromFn.{get_or-range_with_len}
 use Rattle.std.proofs.lemmas.Option.{slice_get-get_or, slice_get_within, get_or_from_slice_get}
 use Rattle.std.specs.List.{slice_get, range_with_len}
@@ -47,3 +47,12 @@ reverse-set_last xs n item last rest long e =
     let sum = length-append (reverse rest) (last ∷ []) in
     let before : length (reverse rest) ≡ n = omega arith in
     ap (λ ys. reverse (set ys n item)) whole ∙ ap reverse (set_at (reverse rest) last [] item n before) ∙ reverse-append (reverse rest) (item ∷ []) ∙ ap (λ ys. item ∷ ys) (reverse-reverse rest)
+
+-- its last item
+pub last_of_reverse : {X : Type 0} (xs : List X) (n : ℕ) (item last : X) (rest : List X) → n ≡ length xs - 1 → reverse xs ≡ last ∷ rest → item ≡ get_or xs n item → item ≡ last
+last_of_reverse xs n item last rest long e is =
+    let whole : xs ≡ reverse rest ++ last ∷ [] = sym (reverse-reverse xs) ∙ ap reverse e ∙ reverse-append (last ∷ []) rest in
+    let size : length xs ≡ length (reverse rest ++ last ∷ []) = ap length whole in
+    let sum = length-append (reverse rest) (last ∷ []) in
+    let before : length (reverse rest) ≡ n = omega arith in
+    is ∙ ap (λ ys. get_or ys n item) whole ∙ get_or_at (reverse rest) last [] item n before

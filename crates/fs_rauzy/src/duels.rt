@@ -59,10 +59,7 @@ impl State {
         let place = find_name(&self.bottom, x);
         write_won_above(&mut self.letters, x as usize, y as usize, &numbers);
         move_last_behind(&mut self.bottom, place);
-        self.extents.set_last(Extent {
-            total: numbers.total,
-            ..extent
-        });
+        self.extents.set_total(numbers.total);
         Ok(Logged {
             event: Event::Won { top: true },
             length: numbers.length,
@@ -86,10 +83,7 @@ impl State {
         let place = find_name(&self.top, y);
         write_won_below(&mut self.letters, y as usize, x as usize, &numbers);
         move_last_behind(&mut self.top, place);
-        self.extents.set_last(Extent {
-            total: numbers.total,
-            ..extent
-        });
+        self.extents.set_total(numbers.total);
         Ok(Logged {
             event: Event::Won { top: false },
             length: numbers.length,

@@ -1,7 +1,10 @@
 // Stacks whose room was taken when they were made.
 
+ghost use Rattle.fs_rauzy.specs.declared.rows.Extent.{Extent};
 ghost use Rattle.std.specs.Prelude.{◌≡◌, ◌≢◌, ◌↔◌, ◌<◌, ◌≤◌, IsTrue, List, [], ◌∷◌, IfOk, length};
 
+use crate::rows::Extent;
+use fs_quadratic::Elem;
 use std::alloc::{AllocError, Global};
 use std::marker::Model;
 
@@ -75,5 +78,19 @@ impl<T: Copy + Drop> Room<T> {
     {
         let last = self.items.len() - 1;
         self.items[last] = item;
+    }
+}
+
+impl Room<Extent> {
+    // Puts another total in the last extent.
+    #[inline(always)]
+    pub fn set_total(&mut self, total: Elem)
+        requires { self.old.items ≢ [] }
+        ensures items { (last : Extent) (rest : List Extent) → self.old.items ≡ last ∷ rest → self.new.items ≡ record last { total = total } ∷ rest }
+        ensures room { self.new.room ≡ self.old.room }
+    {
+        let last = self.items.len() - 1;
+        let extent = &mut self.items[last];
+        extent.total = total;
     }
 }

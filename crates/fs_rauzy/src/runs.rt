@@ -224,7 +224,12 @@ impl Progress {
             Ok(logged) => {
                 self.steps += 1;
                 match logged.event {
-                    Event::Won { .. } => self.look_back(alloc, logged),
+                    // The event once more, so that nothing else of it is copied.
+                    Event::Won { top } => {
+                        let length = logged.length;
+                        let event = Event::Won { top };
+                        self.look_back(alloc, Logged { event, length })
+                    }
                     _ => {
                         self.note(logged)?;
                         self.begin(alloc)?;

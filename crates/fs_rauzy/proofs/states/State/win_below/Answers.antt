@@ -15,7 +15,7 @@ use Rattle.fs_rauzy.proofs.EventsInPlace.{IsEventInPlace, event_at, made_by, ret
 use Rattle.fs_rauzy.proofs.LastInPlace.{AreLastInPlace}
 use Rattle.fs_rauzy.proofs.WonSteps.{IsFoundAt, won_below_stops, won_below_made, won_below_place_within, won_searched}
 use Rattle.fs_rauzy.proofs.states.State.win_below.Goals as goal
-use Rattle.fs_rauzy.proofs.states.State.win_below.Goals.{After-last-extent, After-find_won, After-set_last}
+use Rattle.fs_rauzy.proofs.states.State.win_below.Goals.{After-last-extent, After-find_won, After-set_total}
 
 -- the last names, where the state keeps them
 last : (c : After-last-extent) → AreLastInPlace (λ a b. IsLess c.self.inside.field.d a.length b.length) c.self.inside.letters.items c.self.inside.top.items c.self.inside.bottom.items
@@ -72,18 +72,18 @@ move_last_behind-requires c =
     (subst (λ (row : List ℕ). IsFoundAt row c.args.y c.find_name-place.result) c.deref.ensures.value c.find_name-place.ensures))
 
 -- the letters are written whole
-whole : (c : After-set_last) → take c.self.inside.letters.len (c.write_won_below.new.letters ++ drop (length c.write_won_below.new.letters) c.self.inside.letters.items) ≡ c.write_won_below.new.letters
+whole : (c : After-set_total) → take c.self.inside.letters.len (c.write_won_below.new.letters ++ drop (length c.write_won_below.new.letters) c.self.inside.letters.items) ≡ c.write_won_below.new.letters
 whole c =
     written_whole c.self.inside.letters.len c.write_won_below.new.letters c.self.inside.letters.items
     (c.self.inside.letters.ok.0 ∙ sym (ap length c.deref_mut.ensures.value) ∙ sym c.write_won_below.auto.letters)
 
 -- the lists after the event
-after : (c : After-set_last) → AreLastInPlace (λ a b. IsLess c.self.inside.field.d a.length b.length) c.self.inside.letters.items c.self.inside.top.items c.self.inside.bottom.items
+after : (c : After-set_total) → AreLastInPlace (λ a b. IsLess c.self.inside.field.d a.length b.length) c.self.inside.letters.items c.self.inside.top.items c.self.inside.bottom.items
     c.last-extent.result c.args.x c.args.y → let letters = c.self.inside.letters.items in
     c.find_won.result ≡ checked_won (get_or letters c.args.y no_letter) (get_or letters c.args.x no_letter) c.last-extent.result.total (get_or letters c.args.x no_letter).end.vector
     → IsEventInPlace (record { d = c.self.inside.field.d; components = opened letters c.self.inside.top.items c.self.inside.bottom.items c.self.inside.extents.items })
     (Won false) c.numbers.inside.length (take c.self.inside.letters.len (c.write_won_below.new.letters ++ drop (length c.write_won_below.new.letters) letters))
-    (take c.self.inside.top.len (c.move_last_behind.new.row ++ drop (length c.move_last_behind.new.row) c.self.inside.top.items)) c.self.inside.bottom.items c.set_last.new.self.items
+    (take c.self.inside.top.len (c.move_last_behind.new.row ++ drop (length c.move_last_behind.new.row) c.self.inside.top.items)) c.self.inside.bottom.items c.set_total.new.self.items
 after c there is =
     let letters = c.self.inside.letters.items in
     let numbers = c.in_ok-numbers.numbers in
@@ -99,33 +99,33 @@ after c there is =
     written_whole c.self.inside.top.len c.move_last_behind.new.row c.self.inside.top.items
     (c.self.inside.top.ok.0 ∙ sym (ap length c.deref_mut-2.ensures.value) ∙ sym c.move_last_behind.auto.row)
     ∙ c.move_last_behind.ensures left right winner loser long (c.deref_mut-2.ensures.value ∙ was))
-    c.set_last.new.self.items
-    (c.set_last.ensures.items c.last-extent.result c.last-extent.ensures.0 c.last-extent.ensures.1
+    c.set_total.new.self.items
+    (c.set_total.ensures.items c.last-extent.result c.last-extent.ensures.0 c.last-extent.ensures.1
     ∙ ap (λ (n : WonNumbers). record c.last-extent.result { total = n.total } ∷ c.last-extent.ensures.0) c.numbers.view_is))
 
 pub returns-clause-made : goal.returns-clause-made
 returns-clause-made c =
     let at = goal.at.returns-clause-made c in
     let there = last at.After-last-extent in
-    made_by c.self.view_is refl (after at.After-set_last there (computed at.After-find_won there))
+    made_by c.self.view_is refl (after at.After-set_total there (computed at.After-find_won there))
 
 pub returns-clause-returns : goal.returns-clause-returns
 returns-clause-returns c =
     let at = goal.at.returns-clause-returns c in
     let there = last at.After-last-extent in
-    returns_by c.self.view_is (after at.After-set_last there (computed at.After-find_won there))
+    returns_by c.self.view_is (after at.After-set_total there (computed at.After-find_won there))
 
 pub invariant_of-self : goal.invariant_of-self
 invariant_of-self c =
     let at = goal.at.invariant_of-self c in
     let there = last at.After-last-extent in
-    let is = after at.After-set_last there (computed at.After-find_won there) in
-    let long = ap length (whole at.After-set_last) ∙ c.write_won_below.auto.letters ∙ ap length c.deref_mut.ensures.value in
+    let is = after at.After-set_total there (computed at.After-find_won there) in
+    let long = ap length (whole at.After-set_total) ∙ c.write_won_below.auto.letters ∙ ap length c.deref_mut.ensures.value in
     let room = c.self.invariant.2 in
-    let same = c.set_last.ensures.room in (
+    let same = c.set_total.ensures.room in (
       is.state,
       is.place,
-      subst (λ (n : ℕ). n ≤ c.set_last.new.self.room) (sym long) (subst (λ (n : ℕ). length c.self.inside.letters.items ≤ n) (sym same) room),
+      subst (λ (n : ℕ). n ≤ c.set_total.new.self.room) (sym long) (subst (λ (n : ℕ). length c.self.inside.letters.items ≤ n) (sym same) room),
       c.self.invariant.3 ∙ sym long,
       won_searched (field_order c.self.inside.field.radicand) c.self.inside.searched c.self.invariant.0.lawful is.made c.self.invariant.4,
     )
