@@ -165,13 +165,13 @@ static FORMS: [&[&str]; 16] = [
     &["--seed=0", "--staircase", "1"],
     &["--staircase", "000000001", "--seed", "000000000"],
     &["--staircase=001", "--seed=00"],
-    &["--steps", "9", "--staircase", "1", "--seed", "0"],
-    &["--staircase", "1", "--steps", "9", "--seed", "0"],
-    &["--staircase", "1", "--seed", "0", "--steps", "9"],
-    &["--seed", "0", "--steps=9", "--staircase", "1"],
+    &["--steps", "99", "--staircase", "1", "--seed", "0"],
+    &["--staircase", "1", "--steps", "99", "--seed", "0"],
+    &["--staircase", "1", "--seed", "0", "--steps", "99"],
+    &["--seed", "0", "--steps=99", "--staircase", "1"],
     &["--steps=1000000", "--seed=0", "--staircase=1"],
-    &["--seed=0", "--staircase=1", "--steps=1"],
-    &["--staircase=1", "--steps=000000009", "--seed=0"],
+    &["--seed=0", "--staircase=1", "--steps=14"],
+    &["--staircase=1", "--steps=000000014", "--seed=0"],
 ];
 
 // How a run with these words ends, over a source that would fail at its first call.
@@ -180,7 +180,7 @@ fn run(rt: &impl Abort, alloc: Global, texts: &[&str]) -> (Status, MemSource, Me
     let mut failing = Vec::new(alloc);
     failing.push(0).expect(rt, "memory");
     let mut input = MemSource::new(square_with(rt, alloc, 0, ""), 8, failing);
-    let mut out = sink(rt, alloc, 64, Vec::new(alloc));
+    let mut out = sink(rt, alloc, 1024, Vec::new(alloc));
     let status = flat(alloc, &words, &mut input, &mut out);
     (status, input, out)
 }
