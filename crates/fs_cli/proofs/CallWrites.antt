@@ -23,7 +23,7 @@ use Rattle.fs_report.specs.Answers.{Answers, HasCorner}
 use Rattle.fs_report.specs.Text.{fault_line}
 use Rattle.fs_cli.specs.declared.outcome.Status.{Status}
 use Rattle.fs_cli.specs.declared.outcome.Status.TheVariants as status
-use Rattle.fs_cli.specs.Answer.{AnswersJob, AnswersCommands, no_such_corner, each_answered, stated_line, AnswersStaircase, AnswersRequest, IsAnswered, too_long, no_job, not_unfolded, answered, DescribesShape, AnswersShape, not_built, built, BeginsEach, stop_line, stop_status, AnswersAll, status_of, IsWhole, IsBroken}
+use Rattle.fs_cli.specs.Answer.{AnswersJob, AnswersCommands, no_such_corner, each_answered, stated_line, AnswersStaircase, AnswersAsked, IsAnswered, too_long, no_job, not_unfolded, answered, DescribesShape, AnswersShape, not_built, built, BeginsEach, stop_line, stop_status, AnswersAll, status_of, IsWhole, IsBroken}
 use Rattle.fs_cli.specs.declared.words.Request.{Request}
 use Rattle.fs_cli.specs.declared.words.Staircase.{Staircase}
 use Rattle.fs_cli.specs.Words.{GiveRequest, AskForStaircase}
@@ -41,22 +41,22 @@ no_usage {words} {request} result given other = ((λ e. absurd (other e)), (λ n
 
 module _ {words : List (List ℕ)} {request : Request} (given : GiveRequest words request) {bytes output : List ℕ} {r : Status} where
   -- an answer is one to what they ask for
-  answer_of : IsAnswered words bytes output r → AnswersRequest request.budget request.staircase bytes output r
-  answer_of a = subst (λ (q : Request). AnswersRequest q.budget q.staircase bytes output r) (request_unique words a.request request a.given given) a.answer
+  answer_of : IsAnswered words bytes output r → AnswersAsked request.budget request.staircase bytes output r
+  answer_of a = subst (λ (q : Request). AnswersAsked q.budget q.staircase bytes output r) (request_unique words a.request request a.given given) a.answer
 
   -- to a job
   pub job_answer : request.staircase ≡ None → IsAnswered words bytes output r → AnswersJob request.budget bytes output r
-  job_answer none a = subst (λ (o : Option Staircase). AnswersRequest request.budget o bytes output r) none (answer_of a)
+  job_answer none a = subst (λ (o : Option Staircase). AnswersAsked request.budget o bytes output r) none (answer_of a)
 
   pub answers_job : request.staircase ≡ None → AnswersJob request.budget bytes output r → IsAnswered words bytes output r
-  answers_job none a = record { request = request; given = given; answer = subst (λ (o : Option Staircase). AnswersRequest request.budget o bytes output r) (sym none) a }
+  answers_job none a = record { request = request; given = given; answer = subst (λ (o : Option Staircase). AnswersAsked request.budget o bytes output r) (sym none) a }
 
   -- or to a staircase
   pub staircase_answer : (staircase : Staircase) → request.staircase ≡ Some staircase → IsAnswered words bytes output r → AnswersStaircase request.budget staircase output r
-  staircase_answer staircase is a = subst (λ (o : Option Staircase). AnswersRequest request.budget o bytes output r) is (answer_of a)
+  staircase_answer staircase is a = subst (λ (o : Option Staircase). AnswersAsked request.budget o bytes output r) is (answer_of a)
 
   pub answers_staircase : (staircase : Staircase) → request.staircase ≡ Some staircase → AnswersStaircase request.budget staircase output r → IsAnswered words bytes output r
-  answers_staircase staircase is a = record { request = request; given = given; answer = subst (λ (o : Option Staircase). AnswersRequest request.budget o bytes output r) (sym is) a }
+  answers_staircase staircase is a = record { request = request; given = given; answer = subst (λ (o : Option Staircase). AnswersAsked request.budget o bytes output r) (sym is) a }
 
 -- nor is it that of an answer, whole or broken off
 pub answer_no_usage : (result : Status) → IsWhole result ⊎ IsBroken result → result ≢ status.Usage

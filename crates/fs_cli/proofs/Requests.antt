@@ -31,7 +31,7 @@ not_joined [] (y ∷ b) text none e = cc
 not_joined (x ∷ a) [] text none e = not_equal none.0 (let f : x ≡ 61 = cc in f)
 not_joined (x ∷ a) (y ∷ b) text none e = not_joined a b text none.1 (let f : a ≡ b ++ 61 ∷ text = cc in f)
 
--- and what stands before the first = and after it is one text each
+-- and what is before the first =, and what is after it, is one text each
 joined_once : (a b text other : List ℕ) → HasNoEqual a → HasNoEqual b → a ++ 61 ∷ text ≡ b ++ 61 ∷ other → (a ≡ b) × (text ≡ other)
 joined_once [] [] text other none none' e = (refl, (let f : text ≡ other = cc in f))
 joined_once [] (y ∷ b) text other none none' e = absurd (not_equal none'.0 (let f : y ≡ 61 = cc in f))
@@ -100,13 +100,13 @@ staircase_not_seed e = cc
 -- ---- what the first option sets
 
 -- --steps, where it is the first
-pub record SetsSteps (before after : Settings) (rest : List (List ℕ)) (text : List ℕ) : Type 0 where
+record SetsSteps (before after : Settings) (rest : List (List ℕ)) (text : List ℕ) : Type 0 where
   pub n : ℕ
   pub first : before.steps ≡ None
   pub spells : SpellsWithin 1 most_budget text n
   pub then : Set (record { steps = Some n; rectangles = before.rectangles; seed = before.seed }) rest after
 
-pub sets_steps : {before after : Settings} {words rest : List (List ℕ)} {text : List ℕ} → BeginWith (codes "--steps") words text rest → Set before words after → SetsSteps before after rest text
+sets_steps : {before after : Settings} {words rest : List (List ℕ)} {text : List ℕ} → BeginWith (codes "--steps") words text rest → Set before words after → SetsSteps before after rest text
 sets_steps begins (no_words none e) = absurd (not_begun none begins)
 sets_steps {before} {after} begins (steps other left n begins' first spells then) =
     let same = begin_once steps_name steps_name begins' begins in
@@ -120,13 +120,13 @@ sets_steps begins (rectangles other left n begins' first spells then) = absurd (
 sets_steps begins (seed other left n begins' first spells then) = absurd (steps_not_seed (begin_once steps_name seed_name begins begins').0)
 
 -- --staircase
-pub record SetsRectangles (before after : Settings) (rest : List (List ℕ)) (text : List ℕ) : Type 0 where
+record SetsRectangles (before after : Settings) (rest : List (List ℕ)) (text : List ℕ) : Type 0 where
   pub n : ℕ
   pub first : before.rectangles ≡ None
   pub spells : SpellsWithin 1 most_rectangles text n
   pub then : Set (record { steps = before.steps; rectangles = Some n; seed = before.seed }) rest after
 
-pub sets_rectangles : {before after : Settings} {words rest : List (List ℕ)} {text : List ℕ} → BeginWith (codes "--staircase") words text rest → Set before words after → SetsRectangles before after rest text
+sets_rectangles : {before after : Settings} {words rest : List (List ℕ)} {text : List ℕ} → BeginWith (codes "--staircase") words text rest → Set before words after → SetsRectangles before after rest text
 sets_rectangles begins (no_words none e) = absurd (not_begun none begins)
 sets_rectangles begins (steps other left n begins' first spells then) = absurd (steps_not_staircase (begin_once steps_name staircase_name begins' begins).0)
 sets_rectangles {before} {after} begins (rectangles other left n begins' first spells then) =
@@ -140,13 +140,13 @@ sets_rectangles {before} {after} begins (rectangles other left n begins' first s
 sets_rectangles begins (seed other left n begins' first spells then) = absurd (staircase_not_seed (begin_once staircase_name seed_name begins begins').0)
 
 -- --seed
-pub record SetsSeed (before after : Settings) (rest : List (List ℕ)) (text : List ℕ) : Type 0 where
+record SetsSeed (before after : Settings) (rest : List (List ℕ)) (text : List ℕ) : Type 0 where
   pub n : ℕ
   pub first : before.seed ≡ None
   pub spells : SpellsWithin 0 most_seed text n
   pub then : Set (record { steps = before.steps; rectangles = before.rectangles; seed = Some n }) rest after
 
-pub sets_seed : {before after : Settings} {words rest : List (List ℕ)} {text : List ℕ} → BeginWith (codes "--seed") words text rest → Set before words after → SetsSeed before after rest text
+sets_seed : {before after : Settings} {words rest : List (List ℕ)} {text : List ℕ} → BeginWith (codes "--seed") words text rest → Set before words after → SetsSeed before after rest text
 sets_seed begins (no_words none e) = absurd (not_begun none begins)
 sets_seed begins (steps other left n begins' first spells then) = absurd (steps_not_seed (begin_once steps_name seed_name begins' begins).0)
 sets_seed begins (rectangles other left n begins' first spells then) = absurd (staircase_not_seed (begin_once staircase_name seed_name begins' begins).0)

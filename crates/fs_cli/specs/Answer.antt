@@ -128,15 +128,15 @@ pub record AnswersStaircase (budget : ℕ) (staircase : Staircase) (output : Lis
   pub kind : result ≡ status_of partial
 
 -- what was asked for is answered: a staircase whatever the bytes are, else the bytes
-abbrev pub AnswersRequest : ℕ → Option Staircase → List ℕ → List ℕ → Status → Type 0
-AnswersRequest budget None bytes = AnswersJob budget bytes
-AnswersRequest budget (Some staircase) bytes = AnswersStaircase budget staircase
+abbrev pub AnswersAsked : ℕ → Option Staircase → List ℕ → List ℕ → Status → Type 0
+AnswersAsked budget None bytes = AnswersJob budget bytes
+AnswersAsked budget (Some staircase) bytes = AnswersStaircase budget staircase
 
 -- these words and these bytes are answered with this output and this status
 pub record IsAnswered (words : List (List ℕ)) (bytes output : List ℕ) (result : Status) : Type 0 where
   pub request : Request
   pub given : GiveRequest words request
-  pub answer : AnswersRequest request.budget request.staircase bytes output result
+  pub answer : AnswersAsked request.budget request.staircase bytes output result
 
 -- the number of a status
 abbrev pub exit_code : Status → ℕ
